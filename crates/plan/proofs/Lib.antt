@@ -1,0 +1,5 @@
+pub mod Orders
+pub mod Boxes
+pub mod Numbers
+pub mod Subscribers
+pub mod Lookup

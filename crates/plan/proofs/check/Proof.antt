@@ -1,0 +1,20 @@
+-- `plan::check` meets its contract. Assumes nothing.
+use mathlib.Core.Path.{sym, _∙_}
+use Rattle.plan.specs.Sound.{verdict}
+use borrow.Author.Needs.{needs}
+use Rattle.plan.proofs.check.Statement.{statement}
+use Rattle.plan.proofs.check.Tie as tie
+
+sound-requires : tie.Need-sound-requires
+sound-requires c κs = search needs
+
+returns : tie.Need-returns
+unfolding verdict
+returns c = rw (sym (c .before .sound .ensures) ∙ c .if1 .taken)
+
+returns-2 : tie.Need-returns-2
+unfolding verdict
+returns-2 c = rw (sym (c .before .sound .ensures) ∙ c .if1 .left)
+
+pub check-spec : {M : Type 1} → statement M
+check-spec = tie.close (tie.spec sound-requires returns returns-2)

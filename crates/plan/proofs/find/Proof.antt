@@ -1,0 +1,67 @@
+-- `plan::find` meets its contract. The loop's invariant: no place passed has the address. Assumes nothing.
+use mathlib.Core.Path.{_≡_, sym}
+use mathlib.Core.Bool.{false}
+use Prim.Native.Nat.{ℕ, _≤_, _<_, _-_}
+use native.Mathlib.Omega.{arith}
+use borrow.Author.Needs.{needs}
+use borrow.Author.Count.{below-none, below-more}
+use borrow.Author.Tests.{eq-eqb, ne-eqb}
+use lib.Dec.{eqb}
+use Rattle.plan.specs.Parts.{at}
+use Rattle.plan.specs.Find.{used}
+use Rattle.plan.proofs.Lookup.{lookup-at, lookup-nothing}
+use Rattle.plan.proofs.find.Statement.{statement}
+use Rattle.plan.proofs.find.Tie as tie
+
+abbrev Inv-loop : tie.InvT-loop
+Inv-loop address subscribers end i₀ i = (i ≤ end) × ((k : ℕ) → k < i → eqb (at subscribers k .address) address ≡ false)
+
+abbrev μ-loop : tie.MeasureT-loop
+μ-loop address subscribers end i₀ i = end - i
+
+used-requires : tie.Need-used-requires Inv-loop μ-loop
+used-requires c κs = search needs
+
+loop-holds : tie.Need-loop-holds Inv-loop μ-loop
+loop-holds c = (search needs, below-none _)
+
+mul-s : tie.Need-mul-s Inv-loop μ-loop
+mul-s c = search needs
+
+array-copy-out-s : tie.Need-array-copy-out-s Inv-loop μ-loop
+array-copy-out-s c = search needs
+
+returns : tie.Need-returns Inv-loop μ-loop
+unfolding used
+returns c =
+    sym (lookup-at _ _ _ (rw (← c .before .before .before .before .before .used .ensures) (c .before .before .before .loop-test .taken))
+    (c .before .before .before .before .loop .inv .1) (eq-eqb _ _ (c .if1 .taken)))
+
+add-i : tie.Need-add-i Inv-loop μ-loop
+add-i c = search needs
+
+loop-less : tie.Need-loop-less Inv-loop μ-loop
+loop-less c = search needs
+
+loop-again : tie.Need-loop-again Inv-loop μ-loop
+loop-again c = (search needs, below-more _ _ (c .before .before .before .before .loop .inv .1) (ne-eqb _ _ (c .if1 .left)))
+
+returns-2 : tie.Need-returns-2 Inv-loop μ-loop
+unfolding used
+returns-2 c = sym (lookup-nothing _ _ (λ k h. c .before .loop .inv .1 k (omega arith)))
+
+pub find-spec : {M : Type 1} → statement M
+find-spec =
+    tie.close
+    (tie.spec
+    Inv-loop
+    μ-loop
+    used-requires
+    loop-holds
+    mul-s
+    array-copy-out-s
+    returns
+    add-i
+    loop-less
+    loop-again
+    returns-2)
