@@ -3,3 +3,5 @@ pub mod Boxes
 pub mod Numbers
 pub mod Subscribers
 pub mod Lookup
+pub mod Laws
+pub mod AllRules

@@ -89,6 +89,11 @@ rules p =
     ∷ (each p boxesBlank && restBlank (p .subscribers) (p .count))
     ∷ []
 
+-- all of some tests pass
+unfoldable pub allOf : List Bool → Bool
+allOf [] = true
+allOf (b ∷ bs) = b && allOf bs
+
 -- what a test of the plan answers: sound, or 23 at place 0
 abbrev pub verdictOf : Bool → Verdict
 verdictOf true = Sound
