@@ -1,0 +1,79 @@
+-- The laws of `preceded`, `first` and `next` (`Order.antt`), and the steps of the loop that makes `preceded`. Assumes nothing.
+use mathlib.Core.Path.{_≡_, sym, ap, ap₂, _∙_}
+use mathlib.Core.Bool.{Bool, true, false, not, _&&_, _||_, or-false}
+use mathlib.Core.List.{List}
+use Prim.Native.Nat.{ℕ, _+_, _^_, _<_}
+use native.Mathlib.Numerals.{add-one}
+use lib.ListN.{getD}
+use lib.Dec.{eqb}
+use borrow.Author.Tests.{eqb-true, eqb-false}
+use mathlib.Core.Logic.{⊎-elim}
+use Rattle.typeset.specs.Sets.{has, some, join, lowest}
+use Rattle.typeset.proofs.Bools.{yes-or-no, and-left}
+use Rattle.typeset.proofs.Below.{some-last, setOf-lt}
+use Rattle.typeset.proofs.Laws.{has-ext, has-setOf, has-join-at, has-empty, minus-lt, has-minus, has-below, lowest-has, lowest-lt}
+use Rattle.zone.specs.Order.{preceded, first, next}
+use Rattle.plan.specs.Parts.{precedes}
+
+-- u is in s and comes before t
+abbrev pub before : List ℕ → ℕ → ℕ → ℕ → Bool
+before rows s t u = has u s && precedes rows u t
+
+-- found has the types that one of the first n types precedes
+abbrev pub Found : List ℕ → ℕ → ℕ → ℕ → Type 0
+Found rows s found n = (t : ℕ) → t < 32 → has t found ≡ some n (before rows s t)
+
+pub found-none : (rows : List ℕ) (s : ℕ) → Found rows s 0 0
+unfolding some
+found-none rows s t h = has-empty t
+
+pub found-row : (rows : List ℕ) (s found n : ℕ) → Found rows s found n → has n s ≡ true → Found rows s (join found (getD rows n 0)) (n + 1)
+unfolding precedes
+found-row rows s found n f e t h =
+    has-join-at found (getD rows n 0) t h
+    ∙ ap₂ _||_ (f t h) (ap (λ (b : Bool). b && has t (getD rows n 0)) (sym e))
+    ∙ sym (some-last n (before rows s t)) ∙ ap (λ (k : ℕ). some k (before rows s t)) (sym (add-one n))
+
+pub found-skip : (rows : List ℕ) (s found n : ℕ) → Found rows s found n → has n s ≡ false → Found rows s found (n + 1)
+found-skip rows s found n f e t h =
+    f t h ∙ sym (or-false (some n (before rows s t)))
+    ∙ ap (λ (b : Bool). some n (before rows s t) || (b && precedes rows n t)) (sym e)
+    ∙ sym (some-last n (before rows s t)) ∙ ap (λ (k : ℕ). some k (before rows s t)) (sym (add-one n))
+
+pub found-all : (rows : List ℕ) (s found : ℕ) → found < 2 ^ 32 → Found rows s found 32 → found ≡ preceded rows s
+unfolding preceded
+found-all rows s found h f = has-ext 32 found _ h (setOf-lt 32 _) (λ t l. f t l ∙ sym (has-setOf 32 _ t l))
+
+pub has-preceded : (rows : List ℕ) (s t : ℕ) → t < 32 → has t (preceded rows s) ≡ some 32 (before rows s t)
+unfolding preceded
+has-preceded rows s t h = has-setOf 32 _ t h
+
+-- ---- next
+
+-- where some type is first, next is the lowest of those; where none is, the lowest of all
+pub next-stuck : (rows : List ℕ) (s : ℕ) → first rows s ≡ 0 → next rows s ≡ lowest s
+unfolding next
+next-stuck rows s e = rw e
+
+pub next-free : (rows : List ℕ) (s : ℕ) → eqb (first rows s) 0 ≡ false → next rows s ≡ lowest (first rows s)
+unfolding next
+next-free rows s e = rw e
+
+pub first-lt : (rows : List ℕ) (s : ℕ) → first rows s < 2 ^ 32
+unfolding first
+first-lt rows s = minus-lt s (preceded rows s)
+
+pub has-first : (rows : List ℕ) (s t : ℕ) → s < 2 ^ 32 → has t (first rows s) ≡ (has t s && not (has t (preceded rows s)))
+unfolding first
+has-first rows s t h = has-minus (preceded rows s) t h
+
+pub next-has : (rows : List ℕ) {s : ℕ} → s < 2 ^ 32 → ¬ (s ≡ 0) → has (next rows s) s ≡ true
+next-has rows {s} h ne =
+    ⊎-elim
+    (λ e. rw (next-stuck rows s (eqb-true (first rows s) 0 e)) (lowest-has s (lowest-lt h ne)))
+    (λ e. rw (next-free rows s e)
+    (and-left _ _ (sym (has-first rows s _ h) ∙ lowest-has (first rows s) (lowest-lt (first-lt rows s) (eqb-false (first rows s) 0 e)))))
+    (yes-or-no (eqb (first rows s) 0))
+
+pub next-lt : (rows : List ℕ) {s : ℕ} → s < 2 ^ 32 → ¬ (s ≡ 0) → next rows s < 32
+next-lt rows {s} h ne = has-below 32 (next rows s) h (next-has rows h ne)
