@@ -5,3 +5,4 @@ pub mod Subscribers
 pub mod Lookup
 pub mod Laws
 pub mod AllRules
+pub mod Exact
