@@ -11,13 +11,13 @@ use Rattle.plan.specs.declared.Verdict.{Verdict}
 use Rattle.plan.specs.declared.Found.{Found}
 use Rattle.plan.proofs.legal.Reads as legal
 use Rattle.plan.proofs.types_sound.Reads as types-sound
-use Rattle.plan.proofs.order_sound.Reads as order-sound
 use Rattle.plan.proofs.source_sound.Reads as source-sound
 use Rattle.plan.proofs.target_sound.Reads as target-sound
 use Rattle.plan.proofs.own_sound.Reads as own-sound
 use Rattle.plan.proofs.sound.Reads as sound
 use Rattle.plan.proofs.check.Reads as check
 use Rattle.plan.proofs.find.Reads as find
+use Rattle.plan.proofs.above.Reads as above
 use Rattle.plan.proofs.fits.Reads as fits
 use Rattle.plan.proofs.fits.Kinds as fits-kinds
 use Rattle.plan.proofs.claim.Reads as claim
@@ -34,10 +34,6 @@ legal-exact address r s p q = p ∙ sym q
 pub types-sound-exact : (t : Types) (r s : Bool)
     → types-sound.Post tt (t, tt) r (t, tt) → types-sound.Post tt (t, tt) s (t, tt) → r ≡ s
 types-sound-exact t r s p q = p ∙ sym q
-
-pub order-sound-exact : (chosen : ℕ) (rows : List ℕ) (r s : Bool)
-    → order-sound.Post tt (chosen, (rows, tt)) r (chosen, (rows, tt)) → order-sound.Post tt (chosen, (rows, tt)) s (chosen, (rows, tt)) → r ≡ s
-order-sound-exact chosen rows r s p q = p ∙ sym q
 
 pub source-sound-exact : (t : Types) (source : List ℕ) (r s : Bool)
     → source-sound.Post tt (t, (source, tt)) r (t, (source, tt)) → source-sound.Post tt (t, (source, tt)) s (t, (source, tt)) → r ≡ s
@@ -57,11 +53,15 @@ sound-exact plan r s p q = p ∙ sym q
 
 pub check-exact : (plan : Plan) (r s : Verdict)
     → check.Post tt (plan, tt) r (plan, tt) → check.Post tt (plan, tt) s (plan, tt) → r ≡ s
-check-exact plan r s p q = p ∙ sym q
+check-exact plan r s p q = p .0 ∙ sym (q .0)
 
 pub find-exact : (plan : Plan) (address : ℕ) (r s : Found)
     → find.Post tt (plan, (address, tt)) r (plan, (address, tt)) → find.Post tt (plan, (address, tt)) s (plan, (address, tt)) → r ≡ s
 find-exact plan address r s p q = p ∙ sym q
+
+pub above-exact : (i before address : ℕ) (r s : Bool)
+    → above.Post tt (i, (before, (address, tt))) r (i, (before, (address, tt))) → above.Post tt (i, (before, (address, tt))) s (i, (before, (address, tt))) → r ≡ s
+above-exact i before address r s p q = p ∙ sym q
 
 -- a table that is read; and one that is written, whose content at the end is what is claimed
 pub fits-exact : (κs : Lfts 1) (taken : RefT (List ℕ)) (subscriber : Subscriber) (end : AtExit (endedOf 1 fits-kinds.ps fits-kinds.r) κs) (r s : Bool)

@@ -1,4 +1,3 @@
-pub mod Orders
 pub mod Boxes
 pub mod Numbers
 pub mod Subscribers
@@ -6,3 +5,4 @@ pub mod Lookup
 pub mod Laws
 pub mod AllRules
 pub mod Exact
+pub mod Holders

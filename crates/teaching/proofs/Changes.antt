@@ -9,8 +9,9 @@ use Rattle.typeset.specs.Sets.{has, every, some, setOf, within, meet}
 use Rattle.plan.specs.declared.Types.{Types}
 use Rattle.plan.specs.declared.Subscriber.{Subscriber}
 use Rattle.plan.specs.declared.Plan.{Plan}
-use Rattle.plan.specs.Parts.{precedes, legal, boxNumber}
-use Rattle.plan.specs.Rules.{typesExist, reversibleInBoth, boundInBoth, rowsInChoice, emptyOutside, irreflexive, transitive, twoOf, reversibleOrdered, reversibleOpposed, kindKnown, addressGiven, countFits, numbersGiven, setsInChoices, reversibleTwice, numbersDiffer, boxesBlank, holds, shares, linesApart, oneKind, ascends, blank, restBlank}
+use Rattle.order.specs.Rules.{precedes, rowsInChoice, emptyOutside, irreflexive, transitive, twoOf, reversibleOrdered, reversibleOpposed}
+use Rattle.plan.specs.Parts.{legal, given, boxNumber}
+use Rattle.plan.specs.Rules.{typesExist, reversibleInBoth, boundInBoth, kindKnown, addressGiven, countFits, numbersGiven, setsInChoices, reversibleTwice, numbersDiffer, boxesBlank, holds, shares, linesApart, oneKind, ascends, blank, restBlank}
 use Rattle.plan.specs.Sound.{inBoth, each, eachTwo, sound, rules, allOf}
 use Rattle.plan.proofs.AllRules.{sound-is-all-rules}
 use Rattle.teaching.specs.Teaching.{subscriber, unused, types, sourceRows, targetRows, subscribers, teaching}
@@ -101,12 +102,12 @@ changes =
 
 -- The table: each change breaks the rule beside it and no other.
 pub one-rule-each : map (λ (c : Change). broken (c .plan)) changes ≡ map (λ (c : Change). c .breaks) changes
-unfolding changes change withTypes withOrders withSubscriber failing broken rules inBoth each eachTwo types sourceRows targetRows subscribers subscriber unused has every some setOf within meet precedes legal typesExist reversibleInBoth boundInBoth rowsInChoice emptyOutside irreflexive transitive twoOf reversibleOrdered reversibleOpposed kindKnown addressGiven countFits numbersGiven setsInChoices reversibleTwice numbersDiffer boxesBlank boxNumber holds shares linesApart oneKind ascends blank restBlank
+unfolding changes change withTypes withOrders withSubscriber failing broken rules inBoth each eachTwo types sourceRows targetRows subscribers subscriber unused has every some setOf within meet precedes legal given typesExist reversibleInBoth boundInBoth rowsInChoice emptyOutside irreflexive transitive twoOf reversibleOrdered reversibleOpposed kindKnown addressGiven countFits numbersGiven setsInChoices reversibleTwice numbersDiffer boxesBlank boxNumber holds shares linesApart oneKind ascends blank restBlank
 one-rule-each = refl
 
 -- the teaching plan breaks no rule: it is sound
 pub teaching-breaks-none : broken teaching ≡ []
-unfolding teaching failing broken rules inBoth each eachTwo types sourceRows targetRows subscribers subscriber unused has every some setOf within meet precedes legal typesExist reversibleInBoth boundInBoth rowsInChoice emptyOutside irreflexive transitive twoOf reversibleOrdered reversibleOpposed kindKnown addressGiven countFits numbersGiven setsInChoices reversibleTwice numbersDiffer boxesBlank boxNumber holds shares linesApart oneKind ascends blank restBlank
+unfolding teaching failing broken rules inBoth each eachTwo types sourceRows targetRows subscribers subscriber unused has every some setOf within meet precedes legal given typesExist reversibleInBoth boundInBoth rowsInChoice emptyOutside irreflexive transitive twoOf reversibleOrdered reversibleOpposed kindKnown addressGiven countFits numbersGiven setsInChoices reversibleTwice numbersDiffer boxesBlank boxNumber holds shares linesApart oneKind ascends blank restBlank
 teaching-breaks-none = refl
 
 -- A plan with at most 256 subscribers is sound exactly when it breaks no rule.

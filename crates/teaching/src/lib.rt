@@ -3,7 +3,6 @@ ghost use mathlib.Core.Path.{_≡_};
 ghost use mathlib.Core.List.{[], _∷_};
 ghost use lib.ListN.{replicate};
 ghost use Rattle.teaching.specs.Teaching.{subscriber, unused, types, sourceRows, targetRows, subscribers, teaching};
-
 use plan::Plan;
 use plan::Subscriber;
 use plan::Types;
@@ -39,7 +38,15 @@ fn target_rows() -> [u32; 32]
 }
 
 // A subscriber with at most two box numbers: the others are 0.
-fn subscriber(kind: u8, address: u32, source: u32, target: u32, first: u16, second: u16, count: u8) -> Subscriber
+fn subscriber(
+    kind: u8,
+    address: u32,
+    source: u32,
+    target: u32,
+    first: u16,
+    second: u16,
+    count: u8,
+) -> Subscriber
     ensures { λ r. ⌜ r ≡ subscriber kind address source target (first ∷ second ∷ 0 ∷ 0 ∷ []) count ⌝ }
 {
     Subscriber {
