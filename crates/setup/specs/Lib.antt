@@ -1,0 +1,3 @@
+pub mod Dialling
+pub mod Setups
+pub mod Making
