@@ -5,6 +5,7 @@ use mathlib.Core.List.{List, []}
 use lib.Dec.{eqb}
 use lib.ListN.{length}
 use Rattle.typeset.specs.Sets.{has}
+use Rattle.refusal.specs.Numbers.{numberOf}
 use Rattle.refusal.specs.declared.Refusal.{Refusal}
 use Rattle.refusal.specs.declared.Refusal.the-variants.{RuleBroken, NoSuchType, NotForThisBox, WrongAddress, NotReversible, Malformed, NotRoutedHere, BadString, OwnAddress, AddressTooLarge}
 use Rattle.plan.specs.declared.Region.{Region}
@@ -15,7 +16,9 @@ use Rattle.plan.specs.declared.Found.the-variants.{At, Nothing}
 use Rattle.plan.specs.Parts.{legal, at}
 use Rattle.plan.specs.Sound.{sound}
 use Rattle.plan.specs.Find.{lookup}
+use Rattle.zone.specs.declared.Zone.{Zone}
 use Rattle.zone.specs.Order.{held}
+use Rattle.setup.specs.declared.Dialled.{Dialled}
 use Rattle.setup.specs.declared.Route.{Route}
 use Rattle.setup.specs.declared.Route.the-variants.{Whole, Suffix, Listed}
 use Rattle.setup.specs.declared.Placing.{Placing}
@@ -127,14 +130,14 @@ targetIn Target routed opposite = routed
 -- What continued and reversed setups share, for a box with the address `box`, in region r. An argument for the routing address: that address, whole, and outer = the box's address in the
 -- source region only. None: the routing address is the box's, the route is the one given here with its list and placing type, and outer is absent.
 -- The other address is its argument, or else `kept`.
-unfoldable pub further : Region → ℕ → ℕ → ℕ → ℕ → List ℕ → Route → List ℕ → Placing → Setup
+unfoldable pub further : Region → ℕ → ℕ → ℕ → ℕ → Dialled → Route → Zone → Placing → Setup
 further r box sourceArg targetArg kept string route list placing = record {
   region = r;
   source = sourceIn r (orKept (routing r sourceArg targetArg) box) (orKept (other r sourceArg targetArg) kept);
-  dialled = dialled string;
+  dialled = string;
   target = targetIn r (orKept (routing r sourceArg targetArg) box) (orKept (other r sourceArg targetArg) kept);
   route = cond (eqb (routing r sourceArg targetArg) 0) route Whole;
-  list = held (cond (eqb (routing r sourceArg targetArg) 0) list []);
+  list = cond (eqb (routing r sourceArg targetArg) 0) list (held []);
   placing = cond (eqb (routing r sourceArg targetArg) 0) placing NoPlacing;
   outer = cond (eqb (routing r sourceArg targetArg) 0) NoOuter (outerFor r box);
 }
@@ -142,8 +145,8 @@ further r box sourceArg targetArg kept string route list placing = record {
 -- continued (5.5): the same region; the route is kept; so are the other address and the string where none is given
 unfoldable pub continuedSetup : ℕ → Setup → ℕ → List ℕ → ℕ → Setup
 continuedSetup box s sourceArg string targetArg =
-    further (s .region) box sourceArg targetArg (other (s .region) (s .source) (s .target)) (stringOr string (stringOf (s .dialled)))
-    Listed (listOf (s .list)) NoPlacing
+    further (s .region) box sourceArg targetArg (other (s .region) (s .source) (s .target)) (dialled (stringOr string (stringOf (s .dialled))))
+    Listed (held (listOf (s .list))) NoPlacing
 
 -- the region turns
 abbrev pub turned : Region → Region
@@ -153,8 +156,8 @@ turned Target = Source
 -- reversed (5.6): suffix after the box's type; the other address, where none is given, is the stored source to the source region and the stored target to the target region
 unfoldable pub reversedSetup : ℕ → ℕ → Setup → ℕ → List ℕ → ℕ → Setup
 reversedSetup type box s sourceArg string targetArg =
-    further (turned (s .region)) box sourceArg targetArg (routing (turned (s .region)) (s .source) (s .target)) (stringOr string (stringOf (s .dialled)))
-    Suffix [] (PlacedBy type)
+    further (turned (s .region)) box sourceArg targetArg (routing (turned (s .region)) (s .source) (s .target)) (dialled (stringOr string (stringOf (s .dialled))))
+    Suffix (held []) (PlacedBy type)
 
 -- ---- what is refused
 
@@ -226,3 +229,8 @@ blankSetup = record {
 unfoldable pub answered : Outcome → Setup → Answer
 answered Made s = record { outcome = Made; setup = s }
 answered (Refused r) s = record { outcome = Refused r; setup = blankSetup }
+
+-- what an outcome is in document 01's numbers: 0 for a setup that was made, else the number of the refusal
+abbrev pub numberOfOutcome : Outcome → ℕ
+numberOfOutcome Made = 0
+numberOfOutcome (Refused r) = numberOf r

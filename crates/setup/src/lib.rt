@@ -1,9 +1,13 @@
 // Setups: what a box sends to place a call, and the three ways to make one.
 ghost use mathlib.Core.Path.{_≡_};
 ghost use Prim.Native.Nat.{_<_, _≤_, min};
+ghost use lib.Dec.{eqb};
 ghost use lib.ListN.{take};
 ghost use Rattle.zone.specs.Order.{held};
 ghost use Rattle.zone.specs.Answer.{zoneAt};
+ghost use mathlib.Core.List.{[]};
+ghost use Rattle.plan.specs.Find.{lookup};
+ghost use Rattle.setup.specs.Making.{boxAddress, boxType, kindOf, somebody, typeExists, makesNew, makesMore, addressHeld, orKept, stringOr, outerFor, newSetup, sourceIn, targetIn, further, continuedSetup, turned, reversedSetup, isList, notOwn, newOutcome, continuedOutcome, reversedOutcome, blankSetup, answered};
 ghost use Rattle.setup.specs.Dialling.{symbol, legalString, padded, dialled, stringOf, legalDialled};
 ghost use Rattle.setup.specs.Setups.{routing, other, routingAddress, listOf, outerLegal, inRange, listFits, routeFits, unplaced, placedBy, placingFits, outerAbsent, outerGiven, outerFits, fault, faultless, wellFormed};
 use plan::Found;
@@ -372,4 +376,238 @@ pub fn well_formed(plan: Plan, s: Setup) -> bool
     ensures { λ r. ⌜ r ≡ wellFormed plan s ⌝ }
 {
     faultless(fault_of(plan, s))
+}
+
+// ---- the box that makes a setup
+
+fn box_address(maker: Maker) -> u32
+    ensures { λ r. ⌜ r ≡ boxAddress maker ⌝ }
+{
+    match maker {
+        Maker::Feature(_, a) => a,
+        Maker::Line(a) => a,
+        Maker::Trunk(a) => a,
+        Maker::Resource => 0,
+        Maker::Error => 0,
+    }
+}
+
+fn box_type(maker: Maker) -> u8
+    ensures { λ r. ⌜ r ≡ boxType maker ⌝ }
+{
+    match maker {
+        Maker::Feature(t, _) => t,
+        Maker::Line(_) => 0,
+        Maker::Trunk(_) => 0,
+        Maker::Resource => 0,
+        Maker::Error => 0,
+    }
+}
+
+// The kind of the subscriber at an address, 0 where there is none.
+fn kind_at(plan: Plan, address: u32) -> u8
+    ensures { λ r. ⌜ r ≡ kindOf plan (lookup plan address) ⌝ }
+{
+    let Found::At(i) = plan::find(plan, address) else {
+        return 0;
+    };
+    let subscribers = plan.subscribers;
+    let s = subscribers[i];
+    s.kind
+}
+
+fn in_plan(plan: Plan, address: u32) -> bool
+    ensures { λ r. ⌜ r ≡ somebody (lookup plan address) ⌝ }
+{
+    match plan::find(plan, address) {
+        Found::At(_) => true,
+        Found::Nothing => false,
+    }
+}
+
+fn of_kind(plan: Plan, address: u32, kind: u8) -> bool
+    ensures { λ r. ⌜ r ≡ eqb (kindOf plan (lookup plan address)) kind ⌝ }
+{
+    kind_at(plan, address) == kind
+}
+
+fn type_exists(plan: Plan, maker: Maker) -> bool
+    ensures { λ r. ⌜ r ≡ typeExists plan maker ⌝ }
+{
+    let types = plan.types;
+    match maker {
+        Maker::Feature(t, _) => typeset::has(types.existing, t as u32),
+        Maker::Line(_) => true,
+        Maker::Trunk(_) => true,
+        Maker::Resource => true,
+        Maker::Error => true,
+    }
+}
+
+fn makes_new(maker: Maker) -> bool
+    ensures { λ r. ⌜ r ≡ makesNew maker ⌝ }
+{
+    match maker {
+        Maker::Feature(_, _) => true,
+        Maker::Line(_) => true,
+        Maker::Trunk(_) => true,
+        Maker::Resource => false,
+        Maker::Error => false,
+    }
+}
+
+fn makes_more(maker: Maker) -> bool
+    ensures { λ r. ⌜ r ≡ makesMore maker ⌝ }
+{
+    match maker {
+        Maker::Feature(_, _) => true,
+        Maker::Line(_) => false,
+        Maker::Trunk(_) => false,
+        Maker::Resource => false,
+        Maker::Error => false,
+    }
+}
+
+fn address_held(plan: Plan, maker: Maker) -> bool
+    ensures { λ r. ⌜ r ≡ addressHeld plan maker ⌝ }
+{
+    match maker {
+        Maker::Feature(_, a) => in_plan(plan, a),
+        Maker::Line(a) => of_kind(plan, a, 1),
+        Maker::Trunk(a) => of_kind(plan, a, 2),
+        Maker::Resource => true,
+        Maker::Error => true,
+    }
+}
+
+// ---- the setup that is made
+
+fn or_kept(argument: u32, kept: u32) -> u32
+    ensures { λ r. ⌜ r ≡ orKept argument kept ⌝ }
+{
+    if argument == 0 { kept } else { argument }
+}
+
+// A string that is not empty, or else the one that is kept.
+fn string_or(string: &[u8], kept: Dialled) -> Dialled
+    ensures { λ r. ⌜ r ≡ dialled (stringOr (take 32 (now (string .entry))) (stringOf kept)) ⌝ }
+{
+    if string.len() == 0 {
+        kept_string(kept)
+    } else {
+        dial(string)
+    }
+}
+
+fn turned(region: Region) -> Region
+    ensures { λ r. ⌜ r ≡ turned region ⌝ }
+{
+    match region {
+        Region::Source => Region::Target,
+        Region::Target => Region::Source,
+    }
+}
+
+fn source_in(region: Region, routed: u32, opposite: u32) -> u32
+    ensures { λ r. ⌜ r ≡ sourceIn region routed opposite ⌝ }
+{
+    match region {
+        Region::Source => routed,
+        Region::Target => opposite,
+    }
+}
+
+fn target_in(region: Region, routed: u32, opposite: u32) -> u32
+    ensures { λ r. ⌜ r ≡ targetIn region routed opposite ⌝ }
+{
+    match region {
+        Region::Source => opposite,
+        Region::Target => routed,
+    }
+}
+
+fn outer_for(region: Region, at: u32) -> Outer
+    ensures { λ r. ⌜ r ≡ outerFor region at ⌝ }
+{
+    match region {
+        Region::Source => Outer::OuterAt(at),
+        Region::Target => Outer::NoOuter,
+    }
+}
+
+fn empty_list() -> Zone
+    ensures { λ r. ⌜ r ≡ held [] ⌝ }
+{
+    Zone {
+        types: [0u8; 32],
+        len: 0,
+    }
+}
+
+fn empty_string() -> Dialled
+    ensures { λ r. ⌜ r ≡ dialled [] ⌝ }
+{
+    Dialled {
+        symbols: [0u8; 32],
+        len: 0,
+    }
+}
+
+fn new_of(source: u32, string: &[u8], target: u32) -> Setup
+    ensures { λ r. ⌜ r ≡ newSetup source (take 32 (now (string .entry))) target ⌝ }
+{
+    Setup {
+        region: Region::Source,
+        source,
+        dialled: dial(string),
+        target,
+        route: Route::Whole,
+        list: empty_list(),
+        placing: Placing::NoPlacing,
+        outer: Outer::OuterAt(source),
+    }
+}
+
+// What a continued and a reversed setup share.
+fn further(
+    region: Region,
+    at: u32,
+    source_arg: u32,
+    target_arg: u32,
+    kept: u32,
+    dialled: Dialled,
+    route: Route,
+    list: Zone,
+    placing: Placing,
+) -> Setup
+    ensures { λ r. ⌜ r ≡ further region at «source_arg» «target_arg» kept dialled route list placing ⌝ }
+{
+    let given = routing(region, source_arg, target_arg);
+    let routed = or_kept(given, at);
+    let opposite = or_kept(other(region, source_arg, target_arg), kept);
+    let source = source_in(region, routed, opposite);
+    let target = target_in(region, routed, opposite);
+    if given == 0 {
+        Setup {
+            region,
+            source,
+            dialled,
+            target,
+            route,
+            list,
+            placing,
+            outer: Outer::NoOuter,
+        }
+    } else {
+        Setup {
+            region,
+            source,
+            dialled,
+            target,
+            route: Route::Whole,
+            list: empty_list(),
+            placing: Placing::NoPlacing,
+            outer: outer_for(region, at),
+        }
+    }
 }
