@@ -1,7 +1,10 @@
 // Setups: what a box sends to place a call, and the three ways to make one.
 ghost use mathlib.Core.Path.{_≡_};
 ghost use Prim.Native.Nat.{_<_, _≤_, min};
+ghost use mathlib.Core.Bool.{_&&_};
 ghost use lib.Dec.{eqb};
+ghost use Rattle.typeset.specs.Sets.{has};
+ghost use Rattle.plan.specs.Parts.{legal};
 ghost use lib.ListN.{take};
 ghost use Rattle.zone.specs.Order.{held};
 ghost use Rattle.zone.specs.Answer.{zoneAt};
@@ -610,4 +613,294 @@ fn further(
             outer: outer_for(region, at),
         }
     }
+}
+
+// ---- what is refused
+
+fn is_list(route: Route) -> bool
+    ensures { λ r. ⌜ r ≡ isList route ⌝ }
+{
+    match route {
+        Route::Whole => false,
+        Route::Suffix => false,
+        Route::Listed => true,
+    }
+}
+
+// Whether a setup can be continued: it is well formed, and its route is a list.
+fn continuable(plan: Plan, s: Setup) -> bool
+    ensures { λ r. ⌜ r ≡ (wellFormed plan s && isList (s .route)) ⌝ }
+{
+    let route = s.route;
+    if !well_formed(plan, s) {
+        return false;
+    }
+    is_list(route)
+}
+
+// 8: whether an argument for the routing address of the region is not the box's own address.
+fn not_own(region: Region, at: u32, source_arg: u32, target_arg: u32) -> bool
+    ensures { λ r. ⌜ r ≡ notOwn region at «source_arg» «target_arg» ⌝ }
+{
+    let given = routing(region, source_arg, target_arg);
+    if given == 0 {
+        return true;
+    }
+    given != at
+}
+
+// 9: whether both address arguments are in range.
+fn both_legal(source_arg: u32, target_arg: u32) -> bool
+    ensures { λ r. ⌜ r ≡ (legal «source_arg» && legal «target_arg») ⌝ }
+{
+    if !plan::legal(source_arg) {
+        return false;
+    }
+    plan::legal(target_arg)
+}
+
+fn new_outcome(plan: Plan, maker: Maker, string: &[u8], target_arg: u32) -> Outcome
+    ensures { λ r. ⌜ r ≡ newOutcome plan maker (now (string .entry)) «target_arg» ⌝ }
+{
+    if !plan::sound(plan) {
+        return Outcome::Refused(Refusal::RuleBroken(0));
+    }
+    if !type_exists(plan, maker) {
+        return Outcome::Refused(Refusal::NoSuchType);
+    }
+    if !makes_new(maker) {
+        return Outcome::Refused(Refusal::NotForThisBox);
+    }
+    if !address_held(plan, maker) {
+        return Outcome::Refused(Refusal::WrongAddress);
+    }
+    if !legal_string(string) {
+        return Outcome::Refused(Refusal::BadString);
+    }
+    if !plan::legal(target_arg) {
+        return Outcome::Refused(Refusal::AddressTooLarge);
+    }
+    Outcome::Made
+}
+
+fn continued_outcome(
+    plan: Plan,
+    maker: Maker,
+    s: Setup,
+    source_arg: u32,
+    string: &[u8],
+    target_arg: u32,
+) -> Outcome
+    ensures { λ r. ⌜ r ≡ continuedOutcome plan maker s «source_arg» (now (string .entry)) «target_arg» ⌝ }
+{
+    let region = s.region;
+    let at = box_address(maker);
+    if !plan::sound(plan) {
+        return Outcome::Refused(Refusal::RuleBroken(0));
+    }
+    if !type_exists(plan, maker) {
+        return Outcome::Refused(Refusal::NoSuchType);
+    }
+    if !makes_more(maker) {
+        return Outcome::Refused(Refusal::NotForThisBox);
+    }
+    if !address_held(plan, maker) {
+        return Outcome::Refused(Refusal::WrongAddress);
+    }
+    if !continuable(plan, s) {
+        return Outcome::Refused(Refusal::Malformed);
+    }
+    if routing_address(s) != at {
+        return Outcome::Refused(Refusal::NotRoutedHere);
+    }
+    if !legal_string(string) {
+        return Outcome::Refused(Refusal::BadString);
+    }
+    if !not_own(region, at, source_arg, target_arg) {
+        return Outcome::Refused(Refusal::OwnAddress);
+    }
+    if !both_legal(source_arg, target_arg) {
+        return Outcome::Refused(Refusal::AddressTooLarge);
+    }
+    Outcome::Made
+}
+
+fn reversible_type(plan: Plan, maker: Maker) -> bool
+    ensures { λ r. ⌜ r ≡ has (boxType maker) (plan .types .reversible) ⌝ }
+{
+    let types = plan.types;
+    typeset::has(types.reversible, box_type(maker) as u32)
+}
+
+fn reversed_outcome(
+    plan: Plan,
+    maker: Maker,
+    s: Setup,
+    source_arg: u32,
+    string: &[u8],
+    target_arg: u32,
+) -> Outcome
+    ensures { λ r. ⌜ r ≡ reversedOutcome plan maker s «source_arg» (now (string .entry)) «target_arg» ⌝ }
+{
+    let region = s.region;
+    let at = box_address(maker);
+    let back = turned(region);
+    if !plan::sound(plan) {
+        return Outcome::Refused(Refusal::RuleBroken(0));
+    }
+    if !type_exists(plan, maker) {
+        return Outcome::Refused(Refusal::NoSuchType);
+    }
+    if !makes_more(maker) {
+        return Outcome::Refused(Refusal::NotForThisBox);
+    }
+    if !address_held(plan, maker) {
+        return Outcome::Refused(Refusal::WrongAddress);
+    }
+    if !reversible_type(plan, maker) {
+        return Outcome::Refused(Refusal::NotReversible);
+    }
+    if !well_formed(plan, s) {
+        return Outcome::Refused(Refusal::Malformed);
+    }
+    if !legal_string(string) {
+        return Outcome::Refused(Refusal::BadString);
+    }
+    if !not_own(back, at, source_arg, target_arg) {
+        return Outcome::Refused(Refusal::OwnAddress);
+    }
+    if !both_legal(source_arg, target_arg) {
+        return Outcome::Refused(Refusal::AddressTooLarge);
+    }
+    Outcome::Made
+}
+
+// ---- the three ways to make a setup
+
+fn blank_setup() -> Setup
+    ensures { λ r. ⌜ r ≡ blankSetup ⌝ }
+{
+    Setup {
+        region: Region::Source,
+        source: 0,
+        dialled: empty_string(),
+        target: 0,
+        route: Route::Whole,
+        list: empty_list(),
+        placing: Placing::NoPlacing,
+        outer: Outer::NoOuter,
+    }
+}
+
+// A setup beside its outcome: a blank one beside a refusal.
+fn answered(outcome: Outcome, s: Setup) -> Answer
+    ensures { λ r. ⌜ r ≡ answered outcome s ⌝ }
+{
+    match outcome {
+        Outcome::Made => Answer {
+            outcome: Outcome::Made,
+            setup: s,
+        },
+        Outcome::Refused(r) => Answer {
+            outcome: Outcome::Refused(r),
+            setup: blank_setup(),
+        },
+    }
+}
+
+// A new setup (manual 5.4), for any plan, maker, bytes and number.
+pub fn new_setup(plan: Plan, maker: Maker, string: &[u8], target_arg: u32) -> Answer
+    ensures { λ r. ⌜ r ≡ answered (newOutcome plan maker (now (string .entry)) «target_arg») (newSetup (boxAddress maker) (now (string .entry)) «target_arg») ⌝ }
+{
+    let outcome = new_outcome(plan, maker, string, target_arg);
+    let made = new_of(box_address(maker), string, target_arg);
+    answered(outcome, made)
+}
+
+fn continued_of(at: u32, s: Setup, source_arg: u32, string: &[u8], target_arg: u32) -> Setup
+    ensures { λ r. ⌜ r ≡ continuedSetup at s «source_arg» (take 32 (now (string .entry))) «target_arg» ⌝ }
+{
+    let region = s.region;
+    let stored = s.dialled;
+    let list = s.list;
+    let kept = other(region, s.source, s.target);
+    let dialled = string_or(string, stored);
+    further(
+        region,
+        at,
+        source_arg,
+        target_arg,
+        kept,
+        dialled,
+        Route::Listed,
+        kept_list(list),
+        Placing::NoPlacing,
+    )
+}
+
+// A setup continued (manual 5.5), for any plan, maker, stored setup and arguments.
+pub fn continued_setup(
+    plan: Plan,
+    maker: Maker,
+    s: Setup,
+    source_arg: u32,
+    string: &[u8],
+    target_arg: u32,
+) -> Answer
+    ensures { λ r. ⌜ r ≡ answered (continuedOutcome plan maker s «source_arg» (now (string .entry)) «target_arg») (continuedSetup (boxAddress maker) s «source_arg» (now (string .entry)) «target_arg») ⌝ }
+{
+    let outcome = continued_outcome(plan, maker, s, source_arg, string, target_arg);
+    let made = continued_of(box_address(maker), s, source_arg, string, target_arg);
+    answered(outcome, made)
+}
+
+fn reversed_of(
+    kind: u8,
+    at: u32,
+    s: Setup,
+    source_arg: u32,
+    string: &[u8],
+    target_arg: u32,
+) -> Setup
+    ensures { λ r. ⌜ r ≡ reversedSetup kind at s «source_arg» (take 32 (now (string .entry))) «target_arg» ⌝ }
+{
+    let region = s.region;
+    let stored = s.dialled;
+    let back = turned(region);
+    let kept = routing(back, s.source, s.target);
+    let dialled = string_or(string, stored);
+    further(
+        back,
+        at,
+        source_arg,
+        target_arg,
+        kept,
+        dialled,
+        Route::Suffix,
+        empty_list(),
+        Placing::PlacedBy(kind),
+    )
+}
+
+// A setup reversed (manual 5.6), for any plan, maker, setup once sent and arguments.
+pub fn reversed_setup(
+    plan: Plan,
+    maker: Maker,
+    s: Setup,
+    source_arg: u32,
+    string: &[u8],
+    target_arg: u32,
+) -> Answer
+    ensures { λ r. ⌜ r ≡ answered (reversedOutcome plan maker s «source_arg» (now (string .entry)) «target_arg») (reversedSetup (boxType maker) (boxAddress maker) s «source_arg» (now (string .entry)) «target_arg») ⌝ }
+{
+    let outcome = reversed_outcome(plan, maker, s, source_arg, string, target_arg);
+    let made = reversed_of(
+        box_type(maker),
+        box_address(maker),
+        s,
+        source_arg,
+        string,
+        target_arg,
+    );
+    answered(outcome, made)
 }
