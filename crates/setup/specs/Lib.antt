@@ -1,3 +1,2 @@
 pub mod Dialling
 pub mod Setups
-pub mod Making
