@@ -11,7 +11,6 @@ ghost use Rattle.zone.specs.Order.{held};
 ghost use Rattle.setup.specs.Dialling.{dialled, stringOf};
 ghost use Rattle.setup.specs.Setups.{wellFormed};
 ghost use Rattle.making.specs.Making.{boxAddress, boxType, kindOf, somebody, typeExists, makesNew, makesMore, addressHeld, orKept, stringOr, outerFor, newSetup, sourceIn, targetIn, further, continuedSetup, turned, reversedSetup, isList, notOwn, newOutcome, continuedOutcome, reversedOutcome, blankSetup, answered};
-
 use plan::Found;
 use plan::Plan;
 use plan::Region;
