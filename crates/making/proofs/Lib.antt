@@ -1,2 +1,4 @@
 pub mod Outcomes
 pub mod WellFormed
+pub mod Exact
+pub mod Manual

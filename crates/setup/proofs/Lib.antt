@@ -1,3 +1,4 @@
 pub mod Stored
 pub mod EndParts
 pub mod Faults
+pub mod Exact
