@@ -2,3 +2,4 @@ pub mod Outcomes
 pub mod WellFormed
 pub mod Exact
 pub mod Manual
+pub mod Numbered

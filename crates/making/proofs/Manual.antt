@@ -1,6 +1,6 @@
 -- The manual's equations for the three methods (5.4, 5.5, 5.6), field by field. In them an argument 0 is `noAddr` and an empty string `noString`. Assumes nothing.
 use mathlib.Core.Path.{_≡_, refl}
-use mathlib.Core.Bool.{Bool, true, false}
+use mathlib.Core.Bool.{Bool, true, false, cond}
 use mathlib.Core.List.{List}
 use Prim.Native.Nat.{ℕ}
 use lib.Dec.{eqb}
@@ -16,8 +16,8 @@ use Rattle.setup.specs.declared.Placing.the-variants.{NoPlacing, PlacedBy}
 use Rattle.setup.specs.declared.Outer.the-variants.{NoOuter, OuterAt}
 use Rattle.setup.specs.declared.Setup.{Setup}
 use Rattle.setup.specs.Dialling.{dialled, stringOf}
-use Rattle.setup.specs.Setups.{listOf}
-use Rattle.zone.specs.Order.{held}
+use Rattle.setup.specs.Setups.{routing, listOf}
+use Rattle.zone.proofs.Held.{held-list}
 use Rattle.making.specs.Making.{newSetup, further, continuedSetup, turned, reversedSetup}
 
 -- ---- 5.4
@@ -49,19 +49,20 @@ module _ (box : ℕ) (ss : Setup) (srcArg : ℕ) (dldArg : List ℕ) (trgArg : �
   unfolding continuedSetup further
   continued-source-given r e = rw (r, e) (refl, refl, refl)
 
-  pub continued-source-kept : ss .region ≡ Source → eqb srcArg 0 ≡ true
-      → (s .source ≡ box) × (s .route ≡ Listed) × (s .list ≡ held (listOf (ss .list))) × (s .outer ≡ NoOuter)
-  unfolding continuedSetup further
-  continued-source-kept r e = rw (r, e) (refl, refl, refl, refl)
+  -- the route that is kept is a list, since no other is continued (5)
+  pub continued-source-kept : ss .region ≡ Source → eqb srcArg 0 ≡ true → ss .route ≡ Listed
+      → (s .source ≡ box) × (s .route ≡ ss .route) × (listOf (s .list) ≡ listOf (ss .list)) × (s .outer ≡ NoOuter)
+  unfolding continuedSetup further listOf
+  continued-source-kept r e l = rw (r, e, l) (refl, refl, held-list (listOf (ss .list)), refl)
 
   pub continued-target-given : ss .region ≡ Target → eqb trgArg 0 ≡ false → (s .target ≡ trgArg) × (s .route ≡ Whole) × (s .outer ≡ NoOuter)
   unfolding continuedSetup further
   continued-target-given r e = rw (r, e) (refl, refl, refl)
 
-  pub continued-target-kept : ss .region ≡ Target → eqb trgArg 0 ≡ true
-      → (s .target ≡ box) × (s .route ≡ Listed) × (s .list ≡ held (listOf (ss .list))) × (s .outer ≡ NoOuter)
-  unfolding continuedSetup further
-  continued-target-kept r e = rw (r, e) (refl, refl, refl, refl)
+  pub continued-target-kept : ss .region ≡ Target → eqb trgArg 0 ≡ true → ss .route ≡ Listed
+      → (s .target ≡ box) × (s .route ≡ ss .route) × (listOf (s .list) ≡ listOf (ss .list)) × (s .outer ≡ NoOuter)
+  unfolding continuedSetup further listOf
+  continued-target-kept r e l = rw (r, e, l) (refl, refl, held-list (listOf (ss .list)), refl)
 
   -- the other address
   pub continued-other-target : ss .region ≡ Source → (eqb trgArg 0 ≡ false → s .target ≡ trgArg) × (eqb trgArg 0 ≡ true → s .target ≡ ss .target)
@@ -72,7 +73,16 @@ module _ (box : ℕ) (ss : Setup) (srcArg : ℕ) (dldArg : List ℕ) (trgArg : �
   unfolding continuedSetup further
   continued-other-source r = (λ e. rw (r, e) refl, λ e. rw (r, e) refl)
 
-  -- the string, and no placing type
+  -- no placing type
+  no-placing : (b : Bool) → cond b NoPlacing NoPlacing ≡ NoPlacing
+  no-placing true = refl
+  no-placing false = refl
+
+  pub continued-placing : s .placing ≡ NoPlacing
+  unfolding continuedSetup further
+  continued-placing = no-placing (eqb (routing (ss .region) srcArg trgArg) 0)
+
+  -- the string
   pub continued-string : (eqb (length dldArg) 0 ≡ false → s .dialled ≡ dialled dldArg) × (eqb (length dldArg) 0 ≡ true → s .dialled ≡ dialled (stringOf (ss .dialled)))
   unfolding continuedSetup further
   continued-string = (λ e. rw e refl, λ e. rw e refl)

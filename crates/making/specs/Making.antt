@@ -34,7 +34,7 @@ use Rattle.making.specs.declared.Answer.{Answer}
 use Rattle.setup.specs.Dialling.{legalString, dialled, stringOf}
 use Rattle.setup.specs.Setups.{routing, other, routingAddress, listOf, wellFormed}
 
--- ---- the box that makes a setup
+-- ---- the box that makes a setup (a resource or error box makes none, and an interface box has no type: the 0 beside them is never used)
 
 abbrev pub boxAddress : Maker → ℕ
 boxAddress (Feature t a) = a

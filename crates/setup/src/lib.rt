@@ -126,7 +126,7 @@ fn filled(s: &[u8]) -> [u8; 32]
     places
 }
 
-// A string as a setup holds it, of any bytes: the first 32.
+// A string as a setup holds it, of any bytes: the first 32. It is for a caller that has tested the bytes with legal_string.
 pub fn dial(s: &[u8]) -> Dialled
     ensures { λ r. ⌜ r ≡ dialled (take 32 (now (s .entry))) ⌝ }
 {
@@ -302,7 +302,7 @@ fn outer_fits(region: Region, outer: Outer) -> bool
     }
 }
 
-// The first fault of a setup, in any plan.
+// The first fault of a setup, for a caller that has tested the plan; total in any plan, as zone_at is.
 pub fn fault_of(plan: Plan, s: Setup) -> Fault
     ensures { λ r. ⌜ r ≡ fault plan s ⌝ }
 {
@@ -344,7 +344,7 @@ fn faultless(f: Fault) -> bool
     }
 }
 
-// Whether a setup is well formed, in any plan.
+// Whether a setup is well formed, for a caller that has tested the plan; total in any plan.
 pub fn well_formed(plan: Plan, s: Setup) -> bool
     ensures { λ r. ⌜ r ≡ wellFormed plan s ⌝ }
 {
