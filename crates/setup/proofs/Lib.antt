@@ -2,3 +2,4 @@ pub mod Stored
 pub mod EndParts
 pub mod Faults
 pub mod Exact
+pub mod Tails
