@@ -1,2 +1,4 @@
 pub mod Protocol
 pub mod Parts
+pub mod History
+pub mod Teardown
