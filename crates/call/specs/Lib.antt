@@ -1,4 +1,5 @@
 pub mod Protocol
 pub mod Parts
 pub mod History
+pub mod Row
 pub mod Teardown

@@ -1,18 +1,20 @@
 -- THE THIRD DEMAND of 01, and manual 8.7 (no deadlock; reliable first-in first-out signalling).
 -- `placed c` is the record c with a call placed in it: whatever c held before, free or not, all of this holds of it. `after (placed c) ks` is that record after the commands ks, of which any may have been refused. Each statement here is proved in proofs/Theorem.antt. Assumes nothing.
-use Prim.Native.Nat.{ℕ, _+_, _*_, _-_, _≤_}
+use Prim.Native.Nat.{ℕ, _+_, _*_, _-_, _≤_, _<_}
 use mathlib.Core.Path.{_≡_}
 use mathlib.Core.Bool.{cond, not, _||_}
-use mathlib.Core.List.{List, [], _∷_, _++_}
+use mathlib.Core.List.{List, [], _∷_, _++_, map}
 use mathlib.Core.Logic.{_≢_}
+use lib.ListN.{length, replicate}
 use lib.Dec.{T, leb}
 use Rattle.call.specs.declared.Call.{Call}
 use Rattle.call.specs.declared.Side.{Side}
 use Rattle.call.specs.declared.Side.the-variants.{Caller, Callee}
 use Rattle.call.specs.declared.Command.{Command}
 use Rattle.call.specs.declared.Command.the-variants.{Deliver}
-use Rattle.call.specs.Protocol.{actor, other, stateOf, waiting, isFree, step, numberIn, placed}
+use Rattle.call.specs.Protocol.{actor, other, stateOf, waiting, isFree, step, numberIn, placed, cleared}
 use Rattle.call.specs.History.{allows, after, sent, received, deliveries, tally, upack, ordinary, teardown, downack, sentOf, waitingOf, waitingBothWays}
+use Rattle.call.specs.Row.{Act, place, Reply, placed-at, recordAt, turn, turns, numberOfReply, Event, doing, lives, own}
 
 -- A call is placed in c; the commands `before` send no teardown, and k sends the first; `later` is any commands after it.
 pub record FirstTeardown (c : Call) (before : List Command) (k : Command) (later : List Command) : Type 0 where
@@ -87,3 +89,50 @@ NothingElse =
 -- A refused command leaves the record as it was, whatever the record.
 abbrev pub RefusedSame : Type 0
 RefusedSame = (c : Call) (k : Command) → T (not (allows c k)) → step c k .call ≡ c
+
+-- IN A ROW. What happens to one record is what its own placings and commands do to it alone, whatever is done to the others.
+abbrev pub ByItsOwn : Type 0
+ByItsOwn =
+    (row : List Call) (acts : List Act) (r : ℕ) → r < length row → recordAt (turns row acts) r ≡ lives (recordAt row r) (own r row acts)
+
+-- A call is placed in the lowest free record, and every record but that one is as it was.
+pub record PlacedLowest (row : List Call) (r : ℕ) (after-it : List Call) : Type 0 where
+  pub inside : r < length row
+  pub free : T (isFree (recordAt row r))
+  pub lower : (j : ℕ) → j < r → T (not (isFree (recordAt row j)))
+  pub there : recordAt after-it r ≡ placed (recordAt row r)
+  pub others : (j : ℕ) → j ≢ r → recordAt after-it j ≡ recordAt row j
+
+abbrev pub Placing : Type 0
+Placing = (row : List Call) (r n : ℕ) → turn row place .reply ≡ placed-at r n → PlacedLowest row r (turn row place .row)
+
+-- So in a row that began with every record free, as a cleared one does, a record that isn't free is one that a placing and commands led to: all of the above holds of it.
+abbrev pub AllFree : List Call → Type 0
+AllFree row = (r : ℕ) → r < length row → T (isFree (recordAt row r))
+
+abbrev pub ClearedRow : Type 0
+ClearedRow = (n : ℕ) → AllFree (replicate n cleared)
+
+pub data Came (z : Call) : Type 0 where
+  still-free : T (isFree z) → Came z
+  by-placing : (c : Call) (ks : List Command) → z ≡ after (placed c) ks → Came z
+
+abbrev pub EachCame : Type 0
+EachCame = (row : List Call) → AllFree row → (acts : List Act) (r : ℕ) → r < length row → Came (recordAt (turns row acts) r)
+
+-- There 17 never occurs.
+abbrev pub Never17InRow : Type 0
+Never17InRow = (row : List Call) → AllFree row → (acts : List Act) (a : Act) → numberOfReply (turn (turns row acts) a .reply) ≢ 17
+
+-- THE THIRD DEMAND IN A ROW, whatever the row held before: a call is placed, in record r; then come any acts on any records, of which those on r are the commands `before`, k, `later`; of these k sends the first teardown.
+pub record FirstTeardownIn (row : List Call) (r : ℕ) (acts : List Act) (before : List Command) (k : Command) (later : List Command) : Type 0 where
+  pub number : ℕ
+  pub places : turn row place .reply ≡ placed-at r number
+  pub own-commands : own r (turn row place .row) acts ≡ map doing (before ++ k ∷ later)
+  pub first : FirstTeardown (recordAt row r) before k later
+
+abbrev pub Demand3InRow : Type 0
+Demand3InRow =
+    (row : List Call) (r : ℕ) (acts : List Act) (before : List Command) (k : Command) (later : List Command)
+    → FirstTeardownIn row r acts before k later
+    → Closes (placed (recordAt row r)) (after (placed (recordAt row r)) (before ++ k ∷ [])) (recordAt (turns row (place ∷ acts)) r) (actor k) (before ++ k ∷ later) later
