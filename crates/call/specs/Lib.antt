@@ -3,3 +3,4 @@ pub mod Parts
 pub mod History
 pub mod Row
 pub mod Teardown
+pub mod Plays

@@ -178,10 +178,9 @@ impl End {
         if !ordinary {
             return Verdict::Refuse(Refusal::NotOrdinary);
         }
+        let still = State::Linked;
         if waiting < 14 {
-            Verdict::Become(End {
-                state: State::Linked,
-            })
+            Verdict::Become(End { state: still })
         } else {
             Verdict::Refuse(Refusal::TooManyWaiting)
         }
@@ -192,10 +191,9 @@ impl End {
         ensures { λ r. ⌜ r ≡ spec.tears (self .state) ⌝ }
     {
         let linked = self.is_linked();
+        let torn = State::Unlinking;
         if linked {
-            Verdict::Become(End {
-                state: State::Unlinking,
-            })
+            Verdict::Become(End { state: torn })
         } else {
             Verdict::Refuse(Refusal::StateForbids)
         }
@@ -312,6 +310,13 @@ impl Queue {
     }
 }
 
+// 65,535 is followed by 0.
+fn next_use(n: u16) -> u16
+    ensures { λ r. ⌜ r ≡ spec.nextUse n ⌝ }
+{
+    std::num::wrapping_add_u16(n, 1)
+}
+
 impl Call {
     // A cleared record: ends idle, queues empty, use number 0.
     pub fn cleared() -> Call
@@ -335,11 +340,11 @@ impl Call {
         if idle { self.callee.is_idle() } else { false }
     }
 
-    // A call placed in the record: all that it held before is gone, and the use number is one on; 65,535 is followed by 0.
+    // A call placed in the record: all that it held before is gone, and the use number is one on.
     pub fn placed(self) -> Call
         ensures { λ r. ⌜ r ≡ spec.placed self ⌝ }
     {
-        let q = Queue::empty();
+        let fresh = Queue::empty();
         Call {
             caller: End {
                 state: State::Requesting,
@@ -347,9 +352,9 @@ impl Call {
             callee: End {
                 state: State::Waiting,
             },
-            to_caller: q,
-            to_callee: q,
-            use_number: std::num::wrapping_add_u16(self.use_number, 1),
+            to_caller: fresh,
+            to_callee: fresh,
+            use_number: next_use(self.use_number),
         }
     }
 
@@ -494,10 +499,11 @@ impl Call {
     {
         let to = self.queue(s);
         let from = self.queue(s.other());
-        let call = self.moved(s, end, to.pop(), from);
+        let left = to.pop();
+        let next = self.moved(s, end, left, from);
         Step {
             answer: Answer::Delivered(x),
-            call,
+            call: next,
         }
     }
 
@@ -512,11 +518,13 @@ impl Call {
             Signal::Downack => self.given(s, end, x),
             Signal::Teardown => {
                 let to = self.queue(s);
-                let from = self.queue(s.other());
-                if 15 < from.count {
+                let back = self.queue(s.other());
+                if 15 < back.count {
                     return self.refused(Refusal::BrokenRecord);
                 }
-                let call = self.moved(s, end, to.pop(), from.push(Signal::Downack));
+                let left = to.pop();
+                let acked = back.push(Signal::Downack);
+                let call = self.moved(s, end, left, acked);
                 Step {
                     answer: Answer::Delivered(x),
                     call,

@@ -18,10 +18,10 @@ returns-2 : tie.Need-returns-2
 returns-2 c = rw (sym (c .before .before .before .is-linked .ensures) ∙ not-false _ (c .before .before .if1 .left), sym (c .before .is-ordinary .ensures) ∙ not-true _ (c .if2 .taken))
 
 returns-3 : tie.Need-returns-3
-returns-3 c = rw (sym (c .before .before .before .before .is-linked .ensures) ∙ not-false _ (c .before .before .before .if1 .left), sym (c .before .before .is-ordinary .ensures) ∙ not-false _ (c .before .if2 .left), lt-ltb (c .before .before .before .before .before .args .waiting) 14 (c .if3 .taken))
+returns-3 c = rw (sym (c .before .before .before .before .is-linked .ensures) ∙ not-false _ (c .before .before .before .if1 .left), sym (c .before .before .is-ordinary .ensures) ∙ not-false _ (c .before .if2 .left), lt-ltb _ _ (c .if3 .taken))
 
 returns-4 : tie.Need-returns-4
-returns-4 c = rw (sym (c .before .before .before .before .is-linked .ensures) ∙ not-false _ (c .before .before .before .if1 .left), sym (c .before .before .is-ordinary .ensures) ∙ not-false _ (c .before .if2 .left), le-ltb (c .before .before .before .before .before .args .waiting) 14 (c .if3 .left))
+returns-4 c = rw (sym (c .before .before .before .before .is-linked .ensures) ∙ not-false _ (c .before .before .before .if1 .left), sym (c .before .before .is-ordinary .ensures) ∙ not-false _ (c .before .if2 .left), le-ltb _ _ (c .if3 .left))
 
 pub speak-spec : {M : Type 1} → statement M
 speak-spec =
