@@ -278,24 +278,21 @@ numberIn (Refused r) = numberOf r
 abbrev pub nextUse : ℕ → ℕ
 nextUse n = (n + 1) % 65536
 
--- Placed: both queues empty, the caller requesting and the callee waiting. Nothing else of what the record held before is left.
-abbrev pub placed : Call → Call
-placed c =
+-- A record in which nothing waits.
+abbrev pub quiet : State → State → ℕ → Call
+quiet a b n =
     record {
-      caller = record { state = Requesting };
-      callee = record { state = Waiting };
+      caller = record { state = a };
+      callee = record { state = b };
       «to_caller» = emptyQueue;
       «to_callee» = emptyQueue;
-      «use_number» = nextUse (c .«use_number»);
+      «use_number» = n;
     }
+
+-- Placed: the caller requesting and the callee waiting, both queues empty, and the use number stepped. Nothing else of what the record held before is left.
+abbrev pub placed : Call → Call
+placed c = quiet Requesting Waiting (nextUse (c .«use_number»))
 
 -- A cleared record: ends idle, queues empty, use number 0.
 abbrev pub cleared : Call
-cleared =
-    record {
-      caller = record { state = Idle };
-      callee = record { state = Idle };
-      «to_caller» = emptyQueue;
-      «to_callee» = emptyQueue;
-      «use_number» = 0;
-    }
+cleared = quiet Idle Idle 0

@@ -318,18 +318,32 @@ fn next_use(n: u16) -> u16
 }
 
 impl Call {
+    // A record in which nothing waits.
+    fn quiet(caller: State, callee: State, use_number: u16) -> Call
+        ensures { λ r. ⌜ r ≡ spec.quiet caller callee «use_number» ⌝ }
+    {
+        let empty = Queue::empty();
+        Call {
+            caller: End { state: caller },
+            callee: End { state: callee },
+            to_caller: empty,
+            to_callee: empty,
+            use_number,
+        }
+    }
+
     // A cleared record: ends idle, queues empty, use number 0.
     pub fn cleared() -> Call
         ensures { λ r. ⌜ r ≡ spec.cleared ⌝ }
     {
-        let q = Queue::empty();
-        Call {
-            caller: End { state: State::Idle },
-            callee: End { state: State::Idle },
-            to_caller: q,
-            to_callee: q,
-            use_number: 0,
-        }
+        Call::quiet(State::Idle, State::Idle, 0)
+    }
+
+    // A call placed in the record: all that it held before is gone, and the use number is one on.
+    pub fn placed(self) -> Call
+        ensures { λ r. ⌜ r ≡ spec.placed self ⌝ }
+    {
+        Call::quiet(State::Requesting, State::Waiting, next_use(self.use_number))
     }
 
     // Whether a call can be placed in the record: both ends are idle.
@@ -338,24 +352,6 @@ impl Call {
     {
         let idle = self.caller.is_idle();
         if idle { self.callee.is_idle() } else { false }
-    }
-
-    // A call placed in the record: all that it held before is gone, and the use number is one on.
-    pub fn placed(self) -> Call
-        ensures { λ r. ⌜ r ≡ spec.placed self ⌝ }
-    {
-        let fresh = Queue::empty();
-        Call {
-            caller: End {
-                state: State::Requesting,
-            },
-            callee: End {
-                state: State::Waiting,
-            },
-            to_caller: fresh,
-            to_callee: fresh,
-            use_number: next_use(self.use_number),
-        }
     }
 
     fn end(self, s: Side) -> End
