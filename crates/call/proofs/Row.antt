@@ -1,5 +1,5 @@
 -- Rows: proofs of what specs/Teardown.antt says of them. Assumes nothing.
-use Prim.Native.Nat.{ℕ, zero, suc, _+_, _<_, _≤_}
+use Prim.Native.Nat.{ℕ, zero, suc, _+_, _%_, _<_, _≤_}
 use mathlib.Core.Path.{_≡_, refl, sym, ap, _∙_}
 use mathlib.Core.Bool.{Bool, true, false, cond, not, _&&_, and-true, and-false}
 use mathlib.Core.List.{List, [], _∷_, _++_, map}
@@ -9,14 +9,15 @@ use lib.Seq.{getD-set-same, getD-set-other}
 use borrow.Author.Tests.{eq-eqb, eqb-true, eqb-false, ltb-true}
 use lib.Dec.{T, ltb, eqb}
 use native.Mathlib.Omega.{arith}
+use native.Mathlib.Nat.{mod-add-mod}
 use Rattle.refusal.specs.declared.Refusal.the-variants.{NoSuchCall, NoFreeRecord, RowTooLong}
 use Rattle.call.specs.declared.Call.{Call}
 use Rattle.call.specs.declared.Step.{Step}
 use Rattle.call.specs.declared.Command.{Command}
 use Rattle.call.specs.Protocol.{isFree, step, numberIn, placed, cleared}
 use Rattle.call.specs.History.{allows, after}
-use Rattle.call.specs.Row.{Act, place, command, Reply, placed-at, says, Turn, recordAt, lowestFree, named, refuses, placeAt, put, turn, turns, numberOfReply, Event, placing, doing, happen, lives, placesIn, ownOf, own}
-use Rattle.call.specs.Teardown.{ByItsOwn, PlacedLowest, Placing, AllFree, ClearedRow, Came, still-free, by-placing, EachCame, Never17InRow, FirstTeardownIn, Demand3InRow}
+use Rattle.call.specs.Row.{Act, place, command, Reply, placed-at, says, Turn, recordAt, lowestFree, named, refuses, placeAt, put, turn, turns, numberOfReply, Event, placing, doing, happen, lives, placesIn, ownOf, own, useAfter}
+use Rattle.call.specs.Teardown.{ByItsOwn, PlacedLowest, Placing, AllFree, ClearedRow, Came, still-free, by-placing, EachCame, Never17InRow, FirstTeardownIn, Demand3InRow, UsesComeRound}
 use Rattle.call.proofs.Theorem.{demand3, never17, endsIdle, refusedSame, after-append}
 
 -- A ROW KEEPS ITS LENGTH
@@ -195,3 +196,12 @@ demand3InRow row r acts before k later h =
     ∙ ap (lives (placed c)) (h .own-commands)
     ∙ lives-commands (placed c) (before ++ k ∷ later) in
     rw z (demand3 c before k later (h .first))
+
+-- THE USE NUMBER COMES ROUND
+use-after : (k n : ℕ) → n < 65536 → useAfter k n ≡ (n + k) % 65536
+use-after zero n h = omega arith
+use-after (suc k) n h =
+    ap (λ m. (m + 1) % 65536) (use-after k n h) ∙ mod-add-mod (n + k) 65536 1 ∙ ap (λ m. m % 65536) (omega arith)
+
+pub usesComeRound : UsesComeRound
+usesComeRound n k h p q = (λ e. omega (arith, use-after k n h), λ e. omega (arith, use-after k n h))

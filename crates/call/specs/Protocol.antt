@@ -235,7 +235,7 @@ pops (Send e tunnel x) q = q
 pops (Hang-up e) q = q
 pops (Deliver e) q = pop q
 
--- A delivery answers with the signal handed over.
+-- A delivery answers with the signal handed over. (With nothing waiting it was refused before.)
 abbrev pub hands : Command → List Signal → Answer
 hands Accept w = Accepted
 hands Busy w = Accepted

@@ -93,3 +93,8 @@ ownOf r row (command r′ n k) = cond (eqb r r′ && (not (ltb 1024 (length row)
 abbrev pub own : ℕ → List Call → List Act → List Event
 own r row [] = []
 own r row (a ∷ acts) = ownOf r row a ++ own r (turn row a .row) acts
+
+-- a use number after k more placings in its record
+abbrev pub useAfter : ℕ → ℕ → ℕ
+useAfter zero n = n
+useAfter (suc k) n = nextUse (useAfter k n)

@@ -14,7 +14,7 @@ use Rattle.call.specs.declared.Command.{Command}
 use Rattle.call.specs.declared.Command.the-variants.{Deliver}
 use Rattle.call.specs.Protocol.{actor, other, stateOf, waiting, isFree, step, numberIn, placed, cleared}
 use Rattle.call.specs.History.{allows, after, sent, received, deliveries, tally, upack, ordinary, teardown, downack, sentOf, waitingOf, waitingBothWays}
-use Rattle.call.specs.Row.{Act, place, Reply, placed-at, recordAt, turn, turns, numberOfReply, Event, doing, lives, own}
+use Rattle.call.specs.Row.{Act, place, Reply, placed-at, recordAt, turn, turns, numberOfReply, Event, doing, lives, own, useAfter}
 
 -- A call is placed in c; the commands `before` send no teardown, and k sends the first; `later` is any commands after it.
 pub record FirstTeardown (c : Call) (before : List Command) (k : Command) (later : List Command) : Type 0 where
@@ -136,3 +136,7 @@ Demand3InRow =
     (row : List Call) (r : ℕ) (acts : List Act) (before : List Command) (k : Command) (later : List Command)
     → FirstTeardownIn row r acts before k later
     → Closes (placed (recordAt row r)) (after (placed (recordAt row r)) (before ++ k ∷ [])) (recordAt (turns row (place ∷ acts)) r) (actor k) (before ++ k ∷ later) later
+
+-- An old name fits again after 65,536 placings, and no sooner.
+abbrev pub UsesComeRound : Type 0
+UsesComeRound = (n k : ℕ) → n < 65536 → 0 < k → k ≤ 65536 → (useAfter k n ≡ n → k ≡ 65536) × (k ≡ 65536 → useAfter k n ≡ n)

@@ -78,7 +78,7 @@ pub enum Answer {
 }
 
 // What comes of a command for the end that acts: a refusal, or the end as it is next.
-pub enum Verdict {
+enum Verdict {
     Refuse(Refusal),
     Become(End),
 }
