@@ -19,7 +19,8 @@ use Rattle.call.specs.declared.Verdict.{Verdict}
 use Rattle.call.specs.declared.Verdict.the-variants.{Refuse as refuse}
 use Rattle.call.specs.Protocol.{stateOf, isFree, isOrdinary, to, takes, decide, step, numberIn, placed, cleared}
 use Rattle.call.specs.History.{allows, after, waitingBothWays}
-use Rattle.call.specs.Teardown.{FirstTeardown}
+use Rattle.call.specs.Row.{place, command, turn, turns, numberOfReply}
+use Rattle.call.specs.Teardown.{FirstTeardown, FirstTeardownIn}
 
 -- P11 TO P13
 -- are all of these accepted, one after the other?
@@ -94,6 +95,10 @@ p11-tears = record { none-before = refl; one-with-k = refl }
 
 pub p13-tears : FirstTeardown cleared [] Busy []
 p13-tears = record { none-before = refl; one-with-k = refl }
+
+-- and so does a call in a row, with another placed and answered in between
+pub row-tears : FirstTeardownIn (cleared ∷ cleared ∷ []) 0 (place ∷ command 1 1 Accept ∷ command 0 1 Busy ∷ command 0 1 (Deliver Caller) ∷ []) [] Busy (Deliver Caller ∷ [])
+row-tears = record { number = 1; places = refl; own-commands = refl; first = record { none-before = refl; one-with-k = refl } }
 
 -- 13 WAITING: ACCEPTED; 14: REFUSAL 13
 abbrev pub asks : Call → Command → ℕ
@@ -244,3 +249,16 @@ pub room :
     ∷ []
     ≡ replicate 7 0
 room = refl
+
+-- ROWS: a row of 0 is 11, of 1,024 accepted, of 1,025 refused 16
+pub rows : map (λ n. numberOfReply (turn (replicate n cleared) place .reply)) (0 ∷ 1 ∷ 1024 ∷ 1025 ∷ []) ≡ 11 ∷ 0 ∷ 0 ∷ 16 ∷ []
+rows = refl
+
+-- 10 for a record outside the row, a free one, and one of another use; then the call itself; and no second free record
+pub names :
+    map (λ a. numberOfReply (turn (turns (cleared ∷ []) (place ∷ [])) a .reply)) (command 1 1 Accept ∷ command 0 2 Accept ∷ command 0 1 Accept ∷ place ∷ [])
+    ≡ 10 ∷ 10 ∷ 0 ∷ 11 ∷ []
+names = refl
+
+pub free-record : numberOfReply (turn (cleared ∷ []) (command 0 0 Accept) .reply) ≡ 10
+free-record = refl

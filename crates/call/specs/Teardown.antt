@@ -1,5 +1,5 @@
 -- THE THIRD DEMAND of 01, and manual 8.7 (no deadlock; reliable first-in first-out signalling).
--- `placed c` is the record c with a call placed in it: whatever c held before, free or not, all of this holds of it. `after (placed c) ks` is that record after the commands ks, of which any may have been refused. Each statement here is proved in proofs/Theorem.antt. Assumes nothing.
+-- `placed c` is the record c with a call placed in it: whatever c held before, free or not, all of this holds of it. `after (placed c) ks` is that record after the commands ks, of which any may have been refused. The statements are proved in proofs/Theorem.antt, those of rows in proofs/Row.antt. Assumes nothing.
 use Prim.Native.Nat.{ℕ, _+_, _*_, _-_, _≤_, _<_}
 use mathlib.Core.Path.{_≡_}
 use mathlib.Core.Bool.{cond, not, _||_}
