@@ -27,13 +27,9 @@ pick-length n false s t p q = q
 
 turn-length : (row : List Call) (a : Act) → length (turn row a .row) ≡ length row
 turn-length row place =
-    pick-length (length row) (ltb 1024 (length row)) (refuses RowTooLong row) _ refl
-    (pick-length (length row) (ltb (lowestFree row) (length row)) (placeAt row (lowestFree row)) (refuses NoFreeRecord row)
-    (length-set row (lowestFree row) (placed (recordAt row (lowestFree row)))) refl)
+    pick-length (length row) (ltb 1024 (length row)) _ _ refl (pick-length (length row) (ltb (lowestFree row) (length row)) _ _ (simp length-set) refl)
 turn-length row (command r n k) =
-    pick-length (length row) (ltb 1024 (length row)) (refuses RowTooLong row) _ refl
-    (pick-length (length row) (named row r n) (put row r (step (recordAt row r) k)) (refuses NoSuchCall row)
-    (length-set row r (step (recordAt row r) k .call)) refl)
+    pick-length (length row) (ltb 1024 (length row)) _ _ refl (pick-length (length row) (named row r n) _ _ (simp length-set) refl)
 
 pub turns-length : (row : List Call) (acts : List Act) → length (turns row acts) ≡ length row
 turns-length row [] = refl
