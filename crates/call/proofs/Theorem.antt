@@ -3,7 +3,6 @@ use Prim.Native.Nat.{ℕ, zero, suc, _+_, _*_, _-_, _≤_, _<_}
 use mathlib.Core.Path.{_≡_, refl, sym, ap, _∙_}
 use mathlib.Core.Bool.{Bool, true, false, cond, not, _&&_, _||_}
 use mathlib.Core.List.{List, [], _∷_, _++_, append-nil, append-assoc}
-use mathlib.Core.Logic.{_⊎_, inl, inr, ⊎-elim}
 use lib.ListN.{length, length-append}
 use lib.Dec.{T, leb}
 use borrow.Author.Tests.{le-leb}
@@ -114,18 +113,18 @@ Full (rest by-d) = Unit {0}
 Full (rest by-td) = Unit {0}
 Full (up k) = Unit {0}
 
--- unless both ends are idle: the callee may answer, or both are linked, or one of the queues holds something
-data Moves (a b : State) (i o : Shape) : Type 0 where
-  answers : b ≡ Waiting → o ≡ shut → i ≡ shut → Moves a b i o
-  both-linked : a ≡ Linked → o ≡ rest open-end → Moves a b i o
-  to-me : Full i → Moves a b i o
-  to-them : Full o → Moves a b i o
+-- unless both ends are idle one of the queues does, or no teardown was sent and the callee may answer or both are linked
+data Moves (a b : State) (i o : Shape) (t : ℕ) : Type 0 where
+  to-me : Full i → Moves a b i o t
+  to-them : Full o → Moves a b i o t
+  may-answer : b ≡ Waiting → i ≡ shut → t ≡ 0 → Moves a b i o t
+  both-linked : a ≡ Linked → o ≡ rest open-end → t ≡ 0 → Moves a b i o t
 
-moves : {a b : State} {i o : Shape} {u tm dm ty dy : ℕ} → Phase Caller a b i o u tm dm ty dy → T (not (isIdle a && isIdle b)) → Moves a b i o
-moves asking n = answers refl refl refl
+moves : {a b : State} {i o : Shape} {u tm dm ty dy : ℕ} → Phase Caller a b i o u tm dm ty dy → T (not (isIdle a && isIdle b)) → Moves a b i o (tm + ty)
+moves asking n = may-answer refl refl refl
 moves upack-to-me n = to-me tt
 moves early-to-me n = to-me tt
-moves linked n = both-linked refl refl
+moves linked n = both-linked refl refl refl
 moves i-tear n = to-them tt
 moves they-tear n = to-me tt
 moves crossed n = to-me tt
@@ -139,26 +138,6 @@ moves crossed-i-done n = to-them tt
 moves over-mine n = absurd n
 moves over-theirs n = absurd n
 moves over-both n = absurd n
-
--- and one of the queues, once a teardown was sent
-one-full : {a b : State} {i o : Shape} {u tm dm ty dy : ℕ} → Phase Caller a b i o u tm dm ty dy → 1 ≤ tm + ty → T (not (isIdle a && isIdle b)) → Full i ⊎ Full o
-one-full asking h n = absurd (omega arith)
-one-full upack-to-me h n = inl tt
-one-full early-to-me h n = inl tt
-one-full linked h n = absurd (omega arith)
-one-full i-tear h n = inr tt
-one-full they-tear h n = inl tt
-one-full crossed h n = inl tt
-one-full they-done h n = inl tt
-one-full i-done h n = inr tt
-one-full crossed-they-took h n = inl tt
-one-full crossed-i-took h n = inr tt
-one-full crossed-both-took h n = inl tt
-one-full crossed-they-done h n = inl tt
-one-full crossed-i-done h n = inr tt
-one-full over-mine h n = absurd n
-one-full over-theirs h n = absurd n
-one-full over-both h n = absurd n
 
 not-full : {i : Shape} → Flow [] i → Full i → ⊥
 not-full shut′ f = f
@@ -180,23 +159,23 @@ full-allows {c} e g f =
     let r = ready (g .stage) f in
     goes c (Deliver e) (record { state = r .0 }) (verdict-is c (Deliver e) g ∙ r .1)
 
-some-delivery : {c : Call} {u ta da tb db : ℕ} (g : Good Caller c u ta da tb db) → 1 ≤ ta + tb → T (not (isFree c))
-    → T (allows c (Deliver Caller) || allows c (Deliver Callee))
-some-delivery {c} g h n =
-    ⊎-elim (λ f. or-left (allows c (Deliver Caller)) (allows c (Deliver Callee)) (full-allows Caller g f))
-    (λ f. or-right (allows c (Deliver Caller)) (allows c (Deliver Callee)) (full-allows Callee (turn Caller g) f))
-    (one-full (g .stage .phase) h n)
+some-delivery : {c : Call} {u ta da tb db : ℕ} (g : Good Caller c u ta da tb db) → Moves (stateOf Caller c) (stateOf Callee c) (g .stage .i) (g .stage .o) (ta + tb)
+    → 1 ≤ ta + tb → T (allows c (Deliver Caller) || allows c (Deliver Callee))
+some-delivery {c} g (to-me f) h = or-left (allows c (Deliver Caller)) (allows c (Deliver Callee)) (full-allows Caller g f)
+some-delivery {c} g (to-them f) h = or-right (allows c (Deliver Caller)) (allows c (Deliver Callee)) (full-allows Callee (turn Caller g) f)
+some-delivery g (may-answer p q z) h = absurd (omega arith)
+some-delivery g (both-linked p q z) h = absurd (omega arith)
 
-some-command : {c : Call} {u ta da tb db : ℕ} (g : Good Caller c u ta da tb db) → Moves (stateOf Caller c) (stateOf Callee c) (g .stage .i) (g .stage .o)
+some-command : {c : Call} {u ta da tb db : ℕ} (g : Good Caller c u ta da tb db) → Moves (stateOf Caller c) (stateOf Callee c) (g .stage .i) (g .stage .o) (ta + tb)
     → (k : Command) × T (allows c k)
-some-command {c} g (answers p q r) =
-    let w : waiting Caller c ≡ [] = shut-empty (rw r at (g .stage .come)) in
-    (Accept, goes c Accept (record { state = Linked }) (verdict-is c Accept (turn Caller g) ∙ rw (p, w)))
-some-command {c} g (both-linked p q) =
-    let n : length (waiting Callee c) ≤ 14 = rw q at (g .stage .go-room) in
-    (Hang-up Caller, goes c (Hang-up Caller) (record { state = Unlinking }) (verdict-is c (Hang-up Caller) g ∙ rw (p, le-leb (length (waiting Callee c) + 1) 16 (omega arith))))
 some-command g (to-me f) = (Deliver Caller, full-allows Caller g f)
 some-command g (to-them f) = (Deliver Callee, full-allows Callee (turn Caller g) f)
+some-command {c} g (may-answer p q z) =
+    let w : waiting Caller c ≡ [] = shut-empty (rw q at (g .stage .come)) in
+    (Accept, goes c Accept (record { state = Linked }) (verdict-is c Accept (turn Caller g) ∙ rw (p, w)))
+some-command {c} g (both-linked p q z) =
+    let n : length (waiting Callee c) ≤ 14 = rw q at (g .stage .go-room) in
+    (Hang-up Caller, goes c (Hang-up Caller) (record { state = Unlinking }) (verdict-is c (Hang-up Caller) g ∙ rw (p, le-leb (length (waiting Callee c) + 1) 16 (omega arith))))
 
 -- THE RECORD AS PLACED
 pub placed-good : (c : Call) → Good Caller (placed c) 0 0 0 0 0
@@ -426,7 +405,7 @@ closes c before k later n o =
     let got : T (isFree z) → (s : Side) → received s p ks ≡ sent (other s) p ks =
     λ b s. all-received (waiting s z) (received s p ks) (sent (other s) p ks) (rests (m .good) b s) (inOrder c ks s) in
     record {
-      moves = some-delivery (m .good) (omega (arith, tears));
+      moves = λ u. some-delivery (m .good) (moves (m .good .stage .phase) u) (omega (arith, tears));
       empty = rests (m .good);
       in-order = got;
       downacks =
