@@ -1,8 +1,8 @@
 -- WHAT A COMMAND COMES TO under the invariant: never a refusal 17; and an accepted command leads to the invariant again. Assumes nothing.
-use Prim.Native.Nat.{ℕ, zero, suc, _+_, _≤_, _<_}
+use Prim.Native.Nat.{ℕ, _+_, _≤_, _<_}
 use mathlib.Core.Path.{_≡_, refl}
 use mathlib.Core.Bool.{Bool, true, false, cond}
-use mathlib.Core.List.{List, [], _∷_, _++_}
+use mathlib.Core.List.{List, [], _∷_}
 use mathlib.Core.Logic.{_≢_}
 use lib.ListN.{length, length-append, drop}
 use lib.Dec.{ltb}

@@ -1,6 +1,6 @@
 -- The invariant on a call record, and one command on it, accepted or refused. Assumes nothing.
-use Prim.Native.Nat.{ℕ, zero, suc, _+_, _-_, _≤_, _<_}
-use mathlib.Core.Path.{_≡_, refl, sym, ap, _∙_}
+use Prim.Native.Nat.{ℕ, _+_, _-_}
+use mathlib.Core.Path.{_≡_, refl, sym}
 use mathlib.Core.Bool.{Bool, true, false, cond, _&&_}
 use mathlib.Core.List.{List, [], _∷_, _++_, append-nil}
 use mathlib.Core.Logic.{_≢_}
@@ -16,7 +16,6 @@ use Rattle.call.specs.declared.Signal.the-variants.{Upack, Ordinary, Tea
 use Rattle.call.specs.declared.Queue.{Queue}
 use Rattle.call.specs.declared.Call.{Call}
 use Rattle.call.specs.declared.Answer.{Answer}
-use Rattle.call.specs.declared.Step.{Step}
 use Rattle.call.specs.declared.Side.{Side}
 use Rattle.call.specs.declared.Side.the-variants.{Caller, Callee}
 use Rattle.call.specs.declared.Command.{Command}

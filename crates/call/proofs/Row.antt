@@ -1,23 +1,22 @@
 -- Rows: proofs of what specs/Teardown.antt says of them. Assumes nothing.
-use Prim.Native.Nat.{ℕ, zero, suc, _+_, _%_, _<_, _≤_}
+use Prim.Native.Nat.{ℕ, zero, suc, _+_, _%_, _<_}
 use mathlib.Core.Path.{_≡_, refl, sym, ap, _∙_}
 use mathlib.Core.Bool.{Bool, true, false, cond, not, _&&_, and-true, and-false}
 use mathlib.Core.List.{List, [], _∷_, _++_, map}
 use mathlib.Core.Logic.{_≢_}
-use lib.ListN.{length, getD, set, length-set, replicate}
+use lib.ListN.{length, set, length-set, replicate}
 use lib.Seq.{getD-set-same, getD-set-other}
-use borrow.Author.Tests.{eq-eqb, eqb-true, eqb-false, ltb-true}
+use borrow.Author.Tests.{eqb-true, eqb-false, ltb-true}
 use lib.Dec.{T, ltb, eqb}
 use native.Mathlib.Omega.{arith}
 use native.Mathlib.Nat.{mod-add-mod}
 use Rattle.refusal.specs.declared.Refusal.the-variants.{NoSuchCall, NoFreeRecord, RowTooLong}
 use Rattle.call.specs.declared.Call.{Call}
-use Rattle.call.specs.declared.Step.{Step}
 use Rattle.call.specs.declared.Command.{Command}
 use Rattle.call.specs.Protocol.{isFree, step, numberIn, placed, cleared}
-use Rattle.call.specs.History.{allows, after}
-use Rattle.call.specs.Row.{Act, place, command, Reply, placed-at, says, Turn, recordAt, lowestFree, named, refuses, placeAt, put, turn, turns, numberOfReply, Event, placing, doing, happen, lives, placesIn, ownOf, own, useAfter}
-use Rattle.call.specs.Teardown.{ByItsOwn, PlacedLowest, Placing, AllFree, ClearedRow, Came, still-free, by-placing, EachCame, Never17InRow, FirstTeardownIn, Demand3InRow, UsesComeRound}
+use Rattle.call.specs.History.{after}
+use Rattle.call.specs.Row.{Act, place, command, placed-at, Turn, recordAt, lowestFree, named, refuses, placeAt, put, turn, turns, numberOfReply, Event, placing, doing, happen, lives, placesIn, ownOf, own, useAfter}
+use Rattle.call.specs.Teardown.{ByItsOwn, PlacedLowest, Placing, ClearedRow, Came, still-free, by-placing, EachCame, Never17InRow, Demand3InRow, UsesComeRound}
 use Rattle.call.proofs.Theorem.{demand3, never17, endsIdle, refusedSame, after-append}
 
 -- A ROW KEEPS ITS LENGTH

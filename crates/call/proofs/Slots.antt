@@ -1,11 +1,11 @@
 -- A queue that holds some signals and is blank behind them: what going in and coming out make of it. Assumes nothing.
 use Prim.Native.Nat.{ℕ, zero, suc, _+_, _-_, _≤_, _<_}
-use mathlib.Core.Path.{_≡_, refl, sym, ap, ap₂, _∙_}
+use mathlib.Core.Path.{_≡_, refl, sym, ap, _∙_}
 use mathlib.Core.List.{List, [], _∷_, _++_, append-nil, append-assoc}
 use lib.ListN.{length, length-append, drop, set, replicate, drop-of-length-le}
 use lib.Seq.{drop-cons}
 use native.Mathlib.Omega.{arith}
-use native.Mathlib.Numerals.{add-one, sub-one}
+use native.Mathlib.Numerals.{sub-one}
 use Rattle.call.specs.declared.Signal.{Signal}
 use Rattle.call.specs.declared.Slot.{Slot}
 use Rattle.call.specs.declared.Queue.{Queue}

@@ -2,9 +2,9 @@
 use Prim.Native.Nat.{ℕ, zero, suc, _+_, _-_, _≤_, _<_}
 use native.Mathlib.Numerals.{sub-one}
 use native.Mathlib.Omega.{arith}
-use mathlib.Core.Path.{_≡_, refl, sym, ap, _∙_}
+use mathlib.Core.Path.{_≡_, refl, _∙_}
 use mathlib.Core.Bool.{Bool, true, false, cond}
-use mathlib.Core.List.{List, [], _∷_}
+use mathlib.Core.List.{List, _∷_}
 use lib.ListN.{drop}
 use lib.Dec.{leb}
 use borrow.Author.Tests.{le-leb, lt-leb}
@@ -17,7 +17,6 @@ use Rattle.call.specs.declared.Status.the-variants.{Unknown, Unavail}
 use Rattle.call.specs.declared.Signal.{Signal}
 use Rattle.call.specs.declared.Signal.the-variants.{Upack, Ordinary, Teardown, Downack}
 use Rattle.call.specs.declared.Call.{Call}
-use Rattle.call.specs.declared.Step.{Step}
 use Rattle.call.specs.declared.Side.{Side}
 use Rattle.call.specs.declared.Side.the-variants.{Caller, Callee}
 use Rattle.call.specs.declared.Command.{Command}

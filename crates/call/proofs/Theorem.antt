@@ -1,5 +1,5 @@
 -- The third demand and manual 8.7: proofs of the statements of specs/Teardown.antt. Assumes nothing.
-use Prim.Native.Nat.{ℕ, zero, suc, _+_, _*_, _-_, _≤_, _<_}
+use Prim.Native.Nat.{ℕ, zero, suc, _+_, _-_, _≤_}
 use mathlib.Core.Path.{_≡_, refl, sym, ap, _∙_}
 use mathlib.Core.Bool.{Bool, true, false, cond, not, _&&_, _||_}
 use mathlib.Core.List.{List, [], _∷_, _++_, append-nil, append-assoc}
@@ -25,12 +25,12 @@ use Rattle.call.specs.declared.Verdict.{Verdict}
 use Rattle.call.specs.declared.Verdict.the-variants.{Refuse as refuse, Become as become}
 use Rattle.call.specs.Protocol.{actor, other, stateOf, queueTo, waiting, isIdle, isFree, to, decide, reply, sends, hands, fit, verdict, outcome, step, placed}
 use Rattle.call.specs.History.{accepted, allows, sentWith, after, ifBy, sent, received, deliveries, tally, upack, ordinary, teardown, downack, sentOf, waitingOf, waitingBothWays}
-use Rattle.call.specs.Teardown.{FirstTeardown, Closes, Demand3, NoDeadlock, EndsIdle, InOrder, Never17, Bounded, QueuesBounded, NothingElse, RefusedSame}
+use Rattle.call.specs.Teardown.{Closes, Demand3, NoDeadlock, EndsIdle, InOrder, Never17, Bounded, QueuesBounded, NothingElse, RefusedSame}
 use Rattle.call.proofs.Slots.{Holds, holding, holds-none}
-use Rattle.call.proofs.Phase.{open-end, by-t, by-d, by-td, Shape, shut, rest, up, tears-in, downs-in, cap, none′, Flow, shut′, rest′, up′, flow-counts, Phase, Stage, deliver-at}
+use Rattle.call.proofs.Phase.{open-end, by-t, by-d, by-td, Shape, shut, rest, up, tears-in, downs-in, cap, none′, Flow, shut′, rest′, flow-counts, Phase, Stage, deliver-at}
 use Rattle.call.proofs.Phase.{asking, asked, upack-to-me, upack-to-them, early-to-me, early-to-them, linked, i-tear, they-tear, crossed, they-done, i-done}
 use Rattle.call.proofs.Phase.{crossed-they-took, crossed-i-took, crossed-both-took, crossed-they-done, crossed-i-done, over-mine, over-theirs, over-both}
-use Rattle.call.proofs.Record.{Good, turn, hands-accepted, verdict-is, Went, stepped}
+use Rattle.call.proofs.Record.{Good, turn, hands-accepted, verdict-is, stepped}
 use Rattle.call.proofs.Trace.{tally-append, kinds, seen-by, Ran, ran}
 
 -- WHAT EVERY PHASE SAYS of the numbers: at most one upack, and a teardown of an end only after it; the teardowns of an end are those still waiting and those that got their downack

@@ -1,5 +1,5 @@
 -- Commands one after the other: the invariant, seen from the caller; what was sent and handed over, both ways. Assumes nothing.
-use Prim.Native.Nat.{ℕ, zero, suc, _+_, _≤_, _<_}
+use Prim.Native.Nat.{ℕ, _+_}
 use mathlib.Core.Path.{_≡_, refl, sym, ap, _∙_}
 use mathlib.Core.List.{List, [], _∷_, _++_, append-nil, append-assoc}
 use lib.ListN.{length, length-append}
@@ -13,7 +13,7 @@ use Rattle.call.specs.declared.Side.the-variants.{Caller, Callee}
 use Rattle.call.specs.declared.Command.{Command}
 use Rattle.call.specs.Protocol.{actor, other, waiting, step}
 use Rattle.call.specs.History.{handed, sentWith, after, ifBy, sent, received, deliveries, tally, upack, ordinary, teardown, downack}
-use Rattle.call.proofs.Record.{Good, turn, Went, stepped}
+use Rattle.call.proofs.Record.{Good, turn, stepped}
 
 pub tally-append : (f : Signal → ℕ) (xs ys : List Signal) → tally f (xs ++ ys) ≡ tally f xs + tally f ys
 tally-append f [] ys = omega arith

@@ -1,5 +1,5 @@
 -- What the parts of the code leave, in the words of Protocol. Only the contracts of private functions go by these. Assumes nothing.
-use Prim.Native.Nat.{ℕ, _+_}
+use Prim.Native.Nat.{_+_}
 use mathlib.Core.Bool.{cond}
 use mathlib.Core.List.{[], _∷_}
 use lib.Dec.{leb}

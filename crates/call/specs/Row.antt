@@ -1,6 +1,6 @@
 -- A row of call records (01 'Calls'): placing, and commands that name a record and a use number. What routing refuses comes before, and is left out here. Assumes nothing.
 use Prim.Native.Nat.{ℕ, zero, suc}
-use mathlib.Core.Bool.{Bool, true, false, cond, not, _&&_}
+use mathlib.Core.Bool.{Bool, false, cond, not, _&&_}
 use mathlib.Core.List.{List, [], _∷_, _++_}
 use lib.ListN.{length, getD, set}
 use lib.Dec.{ltb, eqb}

@@ -14,7 +14,7 @@ use Rattle.call.specs.declared.Command.{Command}
 use Rattle.call.specs.declared.Command.the-variants.{Deliver}
 use Rattle.call.specs.Protocol.{actor, other, stateOf, waiting, isFree, step, numberIn, placed, cleared}
 use Rattle.call.specs.History.{allows, after, sent, received, deliveries, tally, upack, ordinary, teardown, downack, sentOf, waitingOf, waitingBothWays}
-use Rattle.call.specs.Row.{Act, place, Reply, placed-at, recordAt, turn, turns, numberOfReply, Event, doing, lives, own, useAfter}
+use Rattle.call.specs.Row.{Act, place, placed-at, recordAt, turn, turns, numberOfReply, doing, lives, own, useAfter}
 
 -- A call is placed in c; the commands `before` send no teardown, and k sends the first; `later` is any commands after it.
 pub record FirstTeardown (c : Call) (before : List Command) (k : Command) (later : List Command) : Type 0 where

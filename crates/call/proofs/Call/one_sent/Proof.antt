@@ -1,10 +1,9 @@
 -- `call::Call::one_sent` meets its contract. Assumes nothing.
-use mathlib.Core.Path.{_≡_, ap, ap₂, _∙_, sym}
+use mathlib.Core.Path.{ap, ap₂, _∙_, sym}
 use native.Mathlib.Omega.{arith}
 use Prim.Native.Nat.{_+_, _<_, _≤_}
 use borrow.Author.Tests.{lt-leb, le-leb}
 use Rattle.call.specs.Protocol.{other, queueTo, push, moved}
-use Rattle.call.specs.Parts.{oneSent}
 use Rattle.call.specs.declared.Answer.the-variants.{Accepted}
 use borrow.Author.Needs.{needs}
 use Rattle.call.proofs.Call.one_sent.Statement.{statement}

@@ -1,5 +1,5 @@
 -- `call::Call::replied` meets its contract. Assumes nothing.
-use mathlib.Core.Path.{_≡_, ap, ap₂, _∙_, sym}
+use mathlib.Core.Path.{ap, ap₂, _∙_, sym}
 use native.Mathlib.Omega.{arith}
 use Prim.Native.Nat.{_+_, _<_, _≤_}
 use borrow.Author.Tests.{lt-leb, le-leb}

@@ -1,11 +1,11 @@
 -- `call::Call::three_sent` meets its contract. Assumes nothing.
-use mathlib.Core.Path.{_≡_, ap, _∙_, sym}
+use mathlib.Core.Path.{ap, _∙_, sym}
 use native.Mathlib.Omega.{arith}
-use Prim.Native.Nat.{_+_, _<_, _≤_}
+use Prim.Native.Nat.{_+_}
 use borrow.Author.Tests.{lt-leb, le-leb}
 use Rattle.call.specs.Protocol.{push, moved}
 use Rattle.call.specs.declared.Queue.{Queue}
-use Rattle.call.specs.declared.Signal.the-variants.{Upack, Ordinary, Teardown}
+use Rattle.call.specs.declared.Signal.the-variants.{Ordinary, Teardown}
 use Rattle.call.specs.declared.Side.the-variants.{Callee}
 use Rattle.call.specs.declared.Answer.the-variants.{Accepted}
 use borrow.Author.Needs.{needs}
