@@ -36,7 +36,7 @@ pub enum Signal {
     Downack,
 }
 
-// A place of a queue.
+// A place of a queue. It is a struct, since a field that is an array of enums has no proof from the borrow checker.
 pub struct Slot {
     pub signal: Signal,
 }
@@ -112,6 +112,7 @@ impl Answer {
     }
 }
 
+// Whether a signal is on the list of ordinary signals: one that is not can be neither sent (15) nor taken (17).
 fn is_ordinary(tunnel: u8, status: Status) -> bool
     ensures { λ r. ⌜ r ≡ spec.isOrdinary tunnel status ⌝ }
 {
