@@ -23,9 +23,9 @@ use Rattle.call.specs.declared.Command.{Command}
 use Rattle.call.specs.declared.Command.the-variants.{Accept, Busy, Unobtainable, Send, Teardown as Hang-up, Deliver}
 use Rattle.call.specs.declared.Verdict.{Verdict}
 use Rattle.call.specs.declared.Verdict.the-variants.{Refuse as refuse, Become as become}
-use Rattle.call.specs.Protocol.{actor, other, stateOf, queueTo, waiting, isIdle, isFree, to, decide, reply, sends, hands, fit, verdict, outcome, step, placed}
+use Rattle.call.specs.Protocol.{actor, other, stateOf, queueTo, waiting, isIdle, isFree, to, decide, reply, sends, hands, fit, verdict, moved, outcome, step, placed}
 use Rattle.call.specs.History.{accepted, allows, sentWith, after, ifBy, sent, received, deliveries, tally, upack, ordinary, teardown, downack, sentOf, waitingOf, waitingBothWays}
-use Rattle.call.specs.Teardown.{Closes, Demand3, NoDeadlock, EndsIdle, InOrder, Never17, Bounded, QueuesBounded, NothingElse, RefusedSame}
+use Rattle.call.specs.Teardown.{Closes, Demand3, OfFour, accepting, tearing, to-caller, to-callee, NoDeadlock, EndsIdle, InOrder, Never17, Bounded, QueuesBounded, NothingElse, RefusedSame, KeepsItsUse}
 use Rattle.call.proofs.Slots.{Holds, holding, holds-none}
 use Rattle.call.proofs.Phase.{open-end, by-t, by-d, by-td, Shape, shut, rest, up, tears-in, downs-in, cap, none′, Flow, shut′, rest′, flow-counts, Phase, Stage, deliver-at}
 use Rattle.call.proofs.Phase.{asking, asked, upack-to-me, upack-to-them, early-to-me, early-to-them, linked, i-tear, they-tear, crossed, they-done, i-done}
@@ -167,15 +167,15 @@ some-delivery g (may-answer p q z) h = absurd (omega arith)
 some-delivery g (both-linked p q z) h = absurd (omega arith)
 
 some-command : {c : Call} {u ta da tb db : ℕ} (g : Good Caller c u ta da tb db) → Moves (stateOf Caller c) (stateOf Callee c) (g .stage .i) (g .stage .o) (ta + tb)
-    → (k : Command) × T (allows c k)
-some-command g (to-me f) = (Deliver Caller, full-allows Caller g f)
-some-command g (to-them f) = (Deliver Callee, full-allows Callee (turn Caller g) f)
+    → (k : Command) × OfFour k × T (allows c k)
+some-command g (to-me f) = (Deliver Caller, to-caller, full-allows Caller g f)
+some-command g (to-them f) = (Deliver Callee, to-callee, full-allows Callee (turn Caller g) f)
 some-command {c} g (may-answer p q z) =
     let w : waiting Caller c ≡ [] = shut-empty (rw q at (g .stage .come)) in
-    (Accept, goes c Accept (record { state = Linked }) (verdict-is c Accept (turn Caller g) ∙ rw (p, w)))
+    (Accept, accepting, goes c Accept (record { state = Linked }) (verdict-is c Accept (turn Caller g) ∙ rw (p, w)))
 some-command {c} g (both-linked p q z) =
     let n : length (waiting Callee c) ≤ 14 = rw q at (g .stage .go-room) in
-    (Hang-up Caller, goes c (Hang-up Caller) (record { state = Unlinking }) (verdict-is c (Hang-up Caller) g ∙ rw (p, le-leb (length (waiting Callee c) + 1) 16 (omega arith))))
+    (Hang-up Caller, tearing, goes c (Hang-up Caller) (record { state = Unlinking }) (verdict-is c (Hang-up Caller) g ∙ rw (p, le-leb (length (waiting Callee c) + 1) 16 (omega arith))))
 
 -- THE RECORD AS PLACED
 pub placed-good : (c : Call) → Good Caller (placed c) 0 0 0 0 0
@@ -269,6 +269,22 @@ refused-as c k (become e) n = absurd (rw (hands-accepted k (waiting (actor k) c)
 
 pub refusedSame : RefusedSame
 refusedSame c k n = refused-as c k (verdict c k) n
+
+-- THE USE NUMBER STAYS
+moved-use : (s : Side) (e : End) (i o : Queue) (c : Call) → moved s e i o c .«use_number» ≡ c .«use_number»
+moved-use Caller e i o c = refl
+moved-use Callee e i o c = refl
+
+use-as : (c : Call) (k : Command) (v : Verdict) → outcome c k v .call .«use_number» ≡ c .«use_number»
+use-as c k (refuse r) = refl
+use-as c k (become e) = moved-use (actor k) e _ _ c
+
+pub keepsItsUse : KeepsItsUse
+keepsItsUse c k = use-as c k (verdict c k)
+
+pub after-use : (c : Call) (ks : List Command) → after c ks .«use_number» ≡ c .«use_number»
+after-use c [] = refl
+after-use c (k ∷ ks) = after-use (step c k .call) ks ∙ keepsItsUse c k
 
 -- HISTORIES one after the other
 pub after-append : (c : Call) (ks ls : List Command) → after c (ks ++ ls) ≡ after (after c ks) ls

@@ -90,15 +90,15 @@ pub plays :
 plays = refl
 
 -- the third demand speaks of these: P11 and P13 have a first teardown
-pub p11-tears : FirstTeardown cleared toLinked (Hang-up Caller) (Deliver Callee ∷ Deliver Caller ∷ [])
+pub p11-tears : FirstTeardown cleared toLinked (Hang-up Caller)
 p11-tears = record { none-before = refl; one-with-k = refl }
 
-pub p13-tears : FirstTeardown cleared [] Busy []
+pub p13-tears : FirstTeardown cleared [] Busy
 p13-tears = record { none-before = refl; one-with-k = refl }
 
 -- and so does a call in a row, with another placed and answered in between
-pub row-tears : FirstTeardownIn (cleared ∷ cleared ∷ []) 0 (place ∷ command 1 1 Accept ∷ command 0 1 Busy ∷ command 0 1 (Deliver Caller) ∷ []) [] Busy (Deliver Caller ∷ [])
-row-tears = record { number = 1; places = refl; own-commands = refl; first = record { none-before = refl; one-with-k = refl } }
+pub row-tears : FirstTeardownIn (cleared ∷ cleared ∷ []) 0 1 (place ∷ command 1 1 Accept ∷ command 0 1 Busy ∷ command 0 1 (Deliver Caller) ∷ []) [] Busy (Deliver Caller ∷ [])
+row-tears = record { call-in = record { places = refl; own-commands = refl }; first = record { none-before = refl; one-with-k = refl } }
 
 -- 13 WAITING: ACCEPTED; 14: REFUSAL 13
 abbrev pub asks : Call → Command → ℕ
