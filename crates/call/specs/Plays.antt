@@ -4,7 +4,6 @@ use mathlib.Core.Path.{_≡_, refl}
 use mathlib.Core.Bool.{Bool, true, false, cond, _&&_}
 use mathlib.Core.List.{List, [], _∷_, _++_, map}
 use lib.ListN.{replicate}
-use Rattle.refusal.specs.declared.Refusal.the-variants.{StateForbids, BrokenRecord}
 use Rattle.call.specs.declared.State.{State}
 use Rattle.call.specs.declared.State.the-variants.{Idle, Requesting, Waiting, Linked, Unlinking}
 use Rattle.call.specs.declared.Status.the-variants.{Unknown, Avail, Unavail, None, Dtmf, Special}
@@ -12,13 +11,12 @@ use Rattle.call.specs.declared.Signal.{Signal}
 use Rattle.call.specs.declared.Signal.the-variants.{Upack, Ordinary, Teardown, Downack}
 use Rattle.call.specs.declared.Queue.{Queue}
 use Rattle.call.specs.declared.Call.{Call}
+use Rattle.call.specs.declared.Side.{Side}
 use Rattle.call.specs.declared.Side.the-variants.{Caller, Callee}
 use Rattle.call.specs.declared.Command.{Command}
 use Rattle.call.specs.declared.Command.the-variants.{Accept, Busy, Unobtainable, Send, Teardown as Hang-up, Deliver}
-use Rattle.call.specs.declared.Verdict.{Verdict}
-use Rattle.call.specs.declared.Verdict.the-variants.{Refuse as refuse}
-use Rattle.call.specs.Protocol.{stateOf, isFree, isOrdinary, to, takes, decide, step, numberIn, placed, cleared}
-use Rattle.call.specs.History.{allows, after, waitingBothWays}
+use Rattle.call.specs.Protocol.{other, stateOf, waiting as waits, isFree, isOrdinary, step, numberIn, placed, cleared}
+use Rattle.call.specs.History.{allows, after, deliveries as since, waitingBothWays}
 use Rattle.call.specs.Row.{place, command, turn, turns, numberOfReply}
 use Rattle.call.specs.Teardown.{FirstTeardown, FirstTeardownIn}
 
@@ -89,14 +87,44 @@ pub plays :
     ∷ []
 plays = refl
 
--- the third demand speaks of these: P11 and P13 have a first teardown
+-- the third demand speaks of these: each has a first teardown
+abbrev pub p12-before : List Command
+p12-before = toLinked ++ Send Caller 0 Avail ∷ Send Callee 0 Avail ∷ []
+
 pub p11-tears : FirstTeardown cleared toLinked (Hang-up Caller)
 p11-tears = record { none-before = refl; one-with-k = refl }
+
+pub p12-tears : FirstTeardown cleared p12-before (Hang-up Caller)
+p12-tears = record { none-before = refl; one-with-k = refl }
 
 pub p13-tears : FirstTeardown cleared [] Busy
 p13-tears = record { none-before = refl; one-with-k = refl }
 
--- and so does a call in a row, with another placed and answered in between
+-- and by its own words: n, the deliveries among the commands since, whether all of these are accepted, and whether both ends are idle at last
+pub record Closing : Type 0 where
+  pub n : ℕ
+  pub deliveries : ℕ
+  pub accepted : Bool
+  pub idle : Bool
+
+abbrev pub closing : List Command → Command → List Command → Closing
+closing before k later =
+    let t = after (placed cleared) (before ++ k ∷ []) in
+    record { n = waitingBothWays t; deliveries = since t later; accepted = allAllowed t later; idle = isFree (after t later) }
+
+abbrev pub closes : ℕ → ℕ → Closing
+closes n d = record { n = n; deliveries = d; accepted = true; idle = true }
+
+pub closings :
+    closing toLinked (Hang-up Caller) (Deliver Callee ∷ Deliver Caller ∷ [])
+    ∷ closing p12-before (Hang-up Caller)
+    (Hang-up Callee ∷ Deliver Callee ∷ Deliver Caller ∷ Deliver Callee ∷ Deliver Caller ∷ Deliver Callee ∷ Deliver Caller ∷ [])
+    ∷ closing [] Busy (Deliver Caller ∷ Deliver Caller ∷ Deliver Caller ∷ Deliver Callee ∷ [])
+    ∷ []
+    ≡ closes 1 2 ∷ closes 3 6 ∷ closes 3 4 ∷ []
+closings = refl
+
+-- a call in a row has one too, with another placed and answered in between
 pub row-tears : FirstTeardownIn (cleared ∷ cleared ∷ []) 0 1 (place ∷ command 1 1 Accept ∷ command 0 1 Busy ∷ command 0 1 (Deliver Caller) ∷ []) [] Busy (Deliver Caller ∷ [])
 row-tears = record { call-in = record { places = refl; own-commands = refl }; first = record { none-before = refl; one-with-k = refl } }
 
@@ -115,46 +143,7 @@ pub limit-with-upack :
     ≡ 0 ∷ 13 ∷ []
 limit-with-upack = refl
 
--- THE TABLE OF STATES AND SIGNALS: what each state does with an upack, an ordinary signal, one outside the list, a teardown and a downack handed to it
-abbrev no : Verdict
-no = refuse BrokenRecord
-
-pub table-of-deliveries :
-    map (λ s. map (takes s) (Upack ∷ Ordinary 0 Avail ∷ Ordinary 1 Avail ∷ Teardown ∷ Downack ∷ []))
-    (Idle ∷ Requesting ∷ Waiting ∷ Linked ∷ Unlinking ∷ [])
-    ≡ (no ∷ no ∷ no ∷ no ∷ no ∷ [])
-    ∷ (to Linked ∷ no ∷ no ∷ no ∷ no ∷ [])
-    ∷ (no ∷ no ∷ no ∷ no ∷ no ∷ [])
-    ∷ (no ∷ to Linked ∷ no ∷ to Idle ∷ no ∷ [])
-    ∷ (no ∷ to Unlinking ∷ no ∷ to Unlinking ∷ to Idle ∷ [])
-    ∷ []
-table-of-deliveries = refl
-
--- and of commands: what comes of an accept, a busy, an unobtainable, an ordinary signal and a teardown from an end in each state
-abbrev forbidden : Verdict
-forbidden = refuse StateForbids
-
-pub table-of-commands :
-    map (λ s. map (λ k. decide k s [] 0) (Accept ∷ Busy ∷ Unobtainable ∷ Send Callee 0 Avail ∷ Hang-up Callee ∷ []))
-    (Idle ∷ Requesting ∷ Waiting ∷ Linked ∷ Unlinking ∷ [])
-    ≡ (forbidden ∷ forbidden ∷ forbidden ∷ forbidden ∷ forbidden ∷ [])
-    ∷ (forbidden ∷ forbidden ∷ forbidden ∷ forbidden ∷ forbidden ∷ [])
-    ∷ (to Linked ∷ to Unlinking ∷ to Unlinking ∷ forbidden ∷ forbidden ∷ [])
-    ∷ (forbidden ∷ forbidden ∷ forbidden ∷ to Linked ∷ to Unlinking ∷ [])
-    ∷ (forbidden ∷ forbidden ∷ forbidden ∷ forbidden ∷ forbidden ∷ [])
-    ∷ []
-table-of-commands = refl
-
--- the ordinary signals: in tunnel 0, the four statuses but no dtmf; in tunnel 1, symbols to 11 and no status; a special in both
-pub ordinary-signals :
-    map (λ t. map (isOrdinary t) (Unknown ∷ Avail ∷ Unavail ∷ None ∷ Dtmf 0 ∷ Dtmf 11 ∷ Dtmf 12 ∷ Special 0 ∷ Special 255 ∷ [])) (0 ∷ 1 ∷ 255 ∷ [])
-    ≡ (true ∷ true ∷ true ∷ true ∷ false ∷ false ∷ false ∷ true ∷ true ∷ [])
-    ∷ (false ∷ false ∷ false ∷ false ∷ true ∷ true ∷ false ∷ true ∷ true ∷ [])
-    ∷ (false ∷ false ∷ false ∷ false ∷ true ∷ true ∷ false ∷ true ∷ true ∷ [])
-    ∷ []
-ordinary-signals = refl
-
--- EVERY REFUSAL
+-- THE TABLES OF docs/CALLS.md
 -- a record of any kind: the ends' states, the counts, and the signal in every slot of each queue
 abbrev filledWith : Signal → ℕ → Queue
 filledWith x n = record { slots = replicate 16 (record { signal = x }); count = n }
@@ -169,6 +158,82 @@ made a b n m x y =
       «use_number» = 1;
     }
 
+-- a side's end in a state, n signals x waiting for it; the other end is linked, and nothing waits for it
+abbrev seat : Side → State → ℕ → Signal → Call
+seat Caller s n x = made s Linked n 0 x Upack
+seat Callee s n x = made Linked s 0 n Upack x
+
+-- what comes of a command there: the number, the acting end's state, and what it sent
+pub record Cell : Type 0 where
+  pub number : ℕ
+  pub state : State
+  pub sends : List Signal
+
+abbrev pub cell : Side → State → ℕ → Signal → Command → Cell
+cell e s n x k =
+    let z = step (seat e s n x) k in
+    record { number = numberIn (z .answer); state = stateOf e (z .call); sends = waits (other e) (z .call) }
+
+-- a refusal, which leaves the state and sends nothing
+abbrev no : ℕ → State → Cell
+no n s = record { number = n; state = s; sends = [] }
+
+-- a state, and what is sent
+abbrev now : State → List Signal → Cell
+now s xs = record { number = 0; state = s; sends = xs }
+
+-- Of states and signals: what an end in each state does with an upack, an ordinary signal, one outside the list, a teardown and a downack handed to it. It is the same for both sides.
+abbrev pub deliveryTable : Side → List (List Cell)
+deliveryTable e =
+    map (λ s. map (λ x. cell e s 1 x (Deliver e)) (Upack ∷ Ordinary 0 Avail ∷ Ordinary 1 Avail ∷ Teardown ∷ Downack ∷ []))
+    (Idle ∷ Requesting ∷ Waiting ∷ Linked ∷ Unlinking ∷ [])
+
+abbrev deliveryCells : List (List Cell)
+deliveryCells =
+    (no 17 Idle ∷ no 17 Idle ∷ no 17 Idle ∷ no 17 Idle ∷ no 17 Idle ∷ [])
+    ∷ (now Linked [] ∷ no 17 Requesting ∷ no 17 Requesting ∷ no 17 Requesting ∷ no 17 Requesting ∷ [])
+    ∷ (no 17 Waiting ∷ no 17 Waiting ∷ no 17 Waiting ∷ no 17 Waiting ∷ no 17 Waiting ∷ [])
+    ∷ (no 17 Linked ∷ now Linked [] ∷ no 17 Linked ∷ now Idle (Downack ∷ []) ∷ no 17 Linked ∷ [])
+    ∷ (no 17 Unlinking ∷ now Unlinking [] ∷ no 17 Unlinking ∷ now Unlinking (Downack ∷ []) ∷ now Idle [] ∷ [])
+    ∷ []
+
+pub table-of-deliveries : map deliveryTable (Caller ∷ Callee ∷ []) ≡ deliveryCells ∷ deliveryCells ∷ []
+table-of-deliveries = refl
+
+-- Of commands: what comes of an accept, a busy, an unobtainable, an ordinary signal, a teardown and a delivery for a callee in each state, with nothing waiting.
+pub table-of-commands :
+    map (λ s. map (cell Callee s 0 Upack) (Accept ∷ Busy ∷ Unobtainable ∷ Send Callee 0 Avail ∷ Hang-up Callee ∷ Deliver Callee ∷ []))
+    (Idle ∷ Requesting ∷ Waiting ∷ Linked ∷ Unlinking ∷ [])
+    ≡ (no 12 Idle ∷ no 12 Idle ∷ no 12 Idle ∷ no 12 Idle ∷ no 12 Idle ∷ no 14 Idle ∷ [])
+    ∷ (no 12 Requesting ∷ no 12 Requesting ∷ no 12 Requesting ∷ no 12 Requesting ∷ no 12 Requesting ∷ no 14 Requesting ∷ [])
+    ∷ (now Linked (Upack ∷ [])
+    ∷ now Unlinking (Upack ∷ Ordinary 0 Unavail ∷ Teardown ∷ [])
+    ∷ now Unlinking (Upack ∷ Ordinary 0 Unknown ∷ Teardown ∷ [])
+    ∷ no 12 Waiting
+    ∷ no 12 Waiting
+    ∷ no 14 Waiting
+    ∷ [])
+    ∷ (no 12 Linked
+    ∷ no 12 Linked
+    ∷ no 12 Linked
+    ∷ now Linked (Ordinary 0 Avail ∷ [])
+    ∷ now Unlinking (Teardown ∷ [])
+    ∷ no 14 Linked
+    ∷ [])
+    ∷ (no 12 Unlinking ∷ no 12 Unlinking ∷ no 12 Unlinking ∷ no 12 Unlinking ∷ no 12 Unlinking ∷ no 14 Unlinking ∷ [])
+    ∷ []
+table-of-commands = refl
+
+-- the ordinary signals: in tunnel 0, the four statuses but no dtmf; in tunnel 1, symbols to 11 and no status; a special in both
+pub ordinary-signals :
+    map (λ t. map (isOrdinary t) (Unknown ∷ Avail ∷ Unavail ∷ None ∷ Dtmf 0 ∷ Dtmf 11 ∷ Dtmf 12 ∷ Special 0 ∷ Special 255 ∷ [])) (0 ∷ 1 ∷ 255 ∷ [])
+    ≡ (true ∷ true ∷ true ∷ true ∷ false ∷ false ∷ false ∷ true ∷ true ∷ [])
+    ∷ (false ∷ false ∷ false ∷ false ∷ true ∷ true ∷ false ∷ true ∷ true ∷ [])
+    ∷ (false ∷ false ∷ false ∷ false ∷ true ∷ true ∷ false ∷ true ∷ true ∷ [])
+    ∷ []
+ordinary-signals = refl
+
+-- EVERY REFUSAL
 -- with ordinary signals in both queues
 abbrev plain : State → State → ℕ → ℕ → Call
 plain a b n m = made a b n m (Ordinary 0 Avail) (Ordinary 0 Avail)

@@ -380,20 +380,21 @@ impl Call {
     {
         let caller = self.caller;
         let callee = self.callee;
+        let use_number = self.use_number;
         match s {
             Side::Caller => Call {
                 caller: end,
                 callee,
                 to_caller: to,
                 to_callee: from,
-                use_number: self.use_number,
+                use_number,
             },
             Side::Callee => Call {
                 caller,
                 callee: end,
                 to_caller: from,
                 to_callee: to,
-                use_number: self.use_number,
+                use_number,
             },
         }
     }
