@@ -60,6 +60,10 @@ const CALLEE_TEARDOWN: u8 = 12;
 
 const TO_CALLEE: u8 = 13;
 
+const CALLER_DTMF_IN_1: u8 = 14;
+
+const CALLER_DTMF_IN_255: u8 = 15;
+
 fn state(n: u8) -> State {
     match n {
         0 => State::Idle,
@@ -95,7 +99,9 @@ fn command(n: u8) -> Command {
         10 => Command::Send(Side::Callee, 0, Status::Avail),
         11 => Command::Send(Side::Callee, 1, Status::Avail),
         12 => Command::Teardown(Side::Callee),
-        _ => Command::Deliver(Side::Callee),
+        13 => Command::Deliver(Side::Callee),
+        14 => Command::Send(Side::Caller, 1, Status::Dtmf(11)),
+        _ => Command::Send(Side::Caller, 255, Status::Dtmf(11)),
     }
 }
 
@@ -128,7 +134,10 @@ fn say_status(x: Status) {
         Status::Avail => say(b"avail"),
         Status::Unavail => say(b"unavail"),
         Status::None => say(b"none"),
-        Status::Dtmf(_) => say(b"dtmf"),
+        Status::Dtmf(symbol) => {
+            say(b"dtmf ");
+            say_number(symbol);
+        }
         Status::Special(_) => say(b"special"),
     }
 }
@@ -136,7 +145,13 @@ fn say_status(x: Status) {
 fn say_signal(x: Signal) {
     match x {
         Signal::Upack => say(b"upack"),
-        Signal::Ordinary(_, s) => say_status(s),
+        Signal::Ordinary(tunnel, s) => {
+            say_status(s);
+            if 0 < tunnel {
+                say(b" in tunnel ");
+                say_number(tunnel);
+            }
+        }
         Signal::Teardown => say(b"teardown"),
         Signal::Downack => say(b"downack"),
     }
@@ -422,6 +437,68 @@ fn room() {
     say(b"\n");
 }
 
+fn say_next(s: Slot) {
+    say(b", ");
+    say_slot(s);
+}
+
+// All of a queue: the count and every slot.
+fn say_queue(q: Queue) {
+    let n = q.count;
+    let a = q.slots;
+    say_number(n);
+    say_next(a[0]);
+    say_next(a[1]);
+    say_next(a[2]);
+    say_next(a[3]);
+    say_next(a[4]);
+    say_next(a[5]);
+    say_next(a[6]);
+    say_next(a[7]);
+    say_next(a[8]);
+    say_next(a[9]);
+    say_next(a[10]);
+    say_next(a[11]);
+    say_next(a[12]);
+    say_next(a[13]);
+    say_next(a[14]);
+    say_next(a[15]);
+    say(b"\n");
+}
+
+// All of a record.
+fn say_record(c: Call) {
+    ends(c);
+    say(b"use ");
+    io::print_decimal(STDOUT_FILENO, c.use_number as u64);
+    say(b"\nto the caller: ");
+    say_queue(c.to_caller);
+    say(b"to the callee: ");
+    say_queue(c.to_callee);
+}
+
+// The twelfth symbol in the lowest and the highest tunnel; and a record after refusals, which leave all of it as it was.
+fn kept() {
+    let c = told(
+        linked(),
+        b"dtmf 11 in tunnel 1 from the caller",
+        CALLER_DTMF_IN_1,
+    );
+    let c = told(
+        c,
+        b"dtmf 11 in tunnel 255 from the caller",
+        CALLER_DTMF_IN_255,
+    );
+    let c = told(c, b"avail from the callee", CALLEE_AVAIL);
+    say_record(c);
+    let c = told(c, b"accept", ACCEPT);
+    let c = told(c, b"avail in tunnel 1 from the caller", CALLER_OUTSIDE);
+    say_record(c);
+    let c = to_callee(to_callee(c));
+    let c = to_callee(c);
+    say_record(c);
+}
+
 // The use number after 65,535.
 fn uses() {
     let q = Call::cleared().to_caller;
@@ -450,5 +527,6 @@ fn main() {
     ordinary();
     delivery();
     room();
+    kept();
     uses();
 }
