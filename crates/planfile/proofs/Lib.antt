@@ -4,3 +4,5 @@ pub mod Places
 pub mod Steps
 pub mod Turns
 pub mod Going
+pub mod Puts
+pub mod Files
