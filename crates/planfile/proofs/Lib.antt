@@ -1,8 +1,0 @@
-pub mod Numbers
-pub mod Fields
-pub mod Places
-pub mod Steps
-pub mod Turns
-pub mod Going
-pub mod Puts
-pub mod Files

@@ -1,4 +1,0 @@
-pub mod Numbers
-pub mod Format
-pub mod Reading
-pub mod Writing
