@@ -12,9 +12,10 @@ use Rattle.plan.specs.declared.Region.{Region}
 use Rattle.plan.specs.declared.Region.the-variants.{Source, Target}
 use Rattle.plan.specs.declared.Subscriber.{Subscriber}
 use Rattle.plan.specs.declared.Plan.{Plan}
+use Rattle.order.specs.Rules.{rowsInChoice, emptyOutside, irreflexive, transitive, reversibleOrdered, reversibleOpposed, orderSound}
 use Rattle.plan.specs.Parts.{choice, order, at}
-use Rattle.plan.specs.Rules.{typesExist, reversibleInBoth, boundInBoth, rowsInChoice, emptyOutside, irreflexive, transitive, reversibleOrdered, reversibleOpposed, kindKnown, addressGiven, countFits, numbersGiven, setsInChoices, reversibleTwice, numbersDiffer, boxesBlank, linesApart, oneKind, ascends, restBlank}
-use Rattle.plan.specs.Sound.{typesSound, orderSound, sourceSound, targetSound, boxesSound, ownSound, numbersApart, subscriberSound, inBoth, each, eachTwo, sound, rules, allOf}
+use Rattle.plan.specs.Rules.{typesExist, reversibleInBoth, boundInBoth, kindKnown, addressGiven, countFits, numbersGiven, setsInChoices, reversibleTwice, numbersDiffer, boxesBlank, linesApart, oneKind, ascends, restBlank}
+use Rattle.plan.specs.Sound.{typesSound, sourceSound, targetSound, boxesSound, ownSound, numbersApart, subscriberSound, inBoth, each, eachTwo, sound, rules, allOf}
 use Rattle.plan.proofs.Subscribers.{own-at, ascends-at, apart-at, own-kind, own-address, own-count, own-sets, own-reversible, own-boxes}
 use Rattle.plan.proofs.Laws.{types-kept, source-kept, target-kept, order-kept, subscribers-kept, rest-kept, few}
 

@@ -10,19 +10,20 @@ use lib.ListN.{getD}
 use borrow.Author.Tests.{ltb-true, leb-true, eqb-true, eqb-false, eq-eqb, ne-eqb, lt-ltb}
 use Rattle.typeset.specs.Sets.{has, every, within, implies, same}
 use Rattle.typeset.proofs.Bools.{yes-or-no, clash, fails, and-left, and-right, and-make, or-cases, not-true, not-of-false, imp-at}
-use Rattle.typeset.proofs.Below.{every-at, least-has, least-min, least-le}
+use Rattle.typeset.proofs.Below.{every-at}
 use Rattle.typeset.proofs.Laws.{has-empty, within-below, split}
 use Rattle.plan.specs.declared.Region.{Region}
 use Rattle.plan.specs.declared.Region.the-variants.{Source, Target}
 use Rattle.plan.specs.declared.Plan.{Plan}
 use Rattle.plan.specs.declared.Found.{Found}
-use Rattle.plan.specs.declared.Found.the-variants.{At, Nothing}
-use Rattle.plan.specs.Parts.{choice, order, subscribed, precedes, legal, at}
-use Rattle.plan.specs.Rules.{typesExist, reversibleInBoth, boundInBoth, rowsInChoice, emptyOutside, irreflexive, transitive, twoOf, reversibleOrdered, reversibleOpposed, addressGiven, setsInChoices, reversibleTwice, ascends, restBlank}
-use Rattle.plan.specs.Sound.{typesSound, orderSound, sourceSound, targetSound, subscriberSound, sound}
-use Rattle.plan.specs.Find.{used, placeOf, foundAt, lookup}
+use Rattle.plan.specs.declared.Found.the-variants.{At}
+use Rattle.order.specs.Rules.{precedes, rowsInChoice, emptyOutside, irreflexive, transitive, twoOf, reversibleOrdered, reversibleOpposed, orderSound}
+use Rattle.plan.specs.Parts.{choice, order, subscribed, legal, given, at}
+use Rattle.plan.specs.Rules.{typesExist, reversibleInBoth, boundInBoth, addressGiven, setsInChoices, reversibleTwice, ascends, restBlank}
+use Rattle.plan.specs.Sound.{typesSound, sourceSound, targetSound, subscriberSound, sound}
+use Rattle.plan.specs.Find.{used, lookup}
 use Rattle.plan.proofs.Subscribers.{own-at, ascends-at, own-address, own-sets, own-reversible}
-use Rattle.plan.proofs.Lookup.{hasAddress, lookup-at, lookup-nothing}
+use Rattle.plan.proofs.Lookup.{lookup-at}
 
 same-is : (a b : Bool) → same a b ≡ true → a ≡ b
 same-is true b e = sym e
@@ -183,17 +184,10 @@ module _ (p : Plan) (𝓢 : sound p ≡ true) where
         (every-at 32 (λ u. implies (has u (p .types .reversible)) (same (has u (at (p .subscribers) i .source)) (has u (at (p .subscribers) i .target))))
         (own-reversible (p .types) (at (p .subscribers) i) (own-at (p .types) (p .subscribers) (p .count) subscribers-kept i h)) t l) e)
 
-    -- an address is legal and not 0
-    pub address-legal : legal (at (p .subscribers) i .address) ≡ true
+    -- its address is one that somebody can have: legal, and not 0
+    pub address-given : given (at (p .subscribers) i .address) ≡ true
     unfolding addressGiven
-    address-legal = and-left (legal (at (p .subscribers) i .address)) (not (eqb (at (p .subscribers) i .address) 0))
-        (own-address (p .types) (at (p .subscribers) i) (own-at (p .types) (p .subscribers) (p .count) subscribers-kept i h))
-
-    pub address-given : ¬ (at (p .subscribers) i .address ≡ 0)
-    unfolding addressGiven
-    address-given = eqb-false (at (p .subscribers) i .address) 0 (not-true (eqb (at (p .subscribers) i .address) 0)
-        (and-right (legal (at (p .subscribers) i .address)) (not (eqb (at (p .subscribers) i .address) 0))
-        (own-address (p .types) (at (p .subscribers) i) (own-at (p .types) (p .subscribers) (p .count) subscribers-kept i h))))
+    address-given = own-address (p .types) (at (p .subscribers) i) (own-at (p .types) (p .subscribers) (p .count) subscribers-kept i h)
 
   -- addresses strictly ascend
   next-above : (i : ℕ) → suc i < p .count → at (p .subscribers) i .address < at (p .subscribers) (suc i) .address
@@ -228,14 +222,6 @@ module _ (p : Plan) (𝓢 : sound p ≡ true) where
   -- a subscriber's address is found at its place
   pub found-own : (i : ℕ) → i < p .count → lookup p (at (p .subscribers) i .address) ≡ At i
   found-own i h =
-      lookup-at p (at (p .subscribers) i .address) i (rw used-all h)
+      lookup-at p (at (p .subscribers) i .address) (address-given i h) i (rw used-all h)
       (λ k l. ne-eqb (at (p .subscribers) k .address) (at (p .subscribers) i .address) (λ e. omega (arith, addresses-ascend k i l h)))
       (eq-eqb (at (p .subscribers) i .address) (at (p .subscribers) i .address) refl)
-
-  -- 0 is nobody's address, and neither is one that is out of range
-  pub found-no-zero : lookup p 0 ≡ Nothing
-  found-no-zero = lookup-nothing p 0 (λ k h. ne-eqb (at (p .subscribers) k .address) 0 (address-given k (rw (← used-all) h)))
-
-  pub found-no-illegal : (a : ℕ) → legal a ≡ false → lookup p a ≡ Nothing
-  found-no-illegal a bad = lookup-nothing p a (λ k h. ne-eqb (at (p .subscribers) k .address) a
-      (λ e. clash (address-legal k (rw (← used-all) h)) (ap legal e ∙ bad)))

@@ -206,7 +206,7 @@ last-kind subs (suc i) n j apart h e =
 -- ---- L17 and L18 for the subscriber at place i, read off the table
 
 -- where two share a number: they are of one kind, and that kind is no line
-abbrev Agree : Subscriber → Subscriber → Type 0
+abbrev pub Agree : Subscriber → Subscriber → Type 0
 Agree a b = (a .kind ≡ b .kind) × (eqb (b .kind) 1 ≡ false)
 
 apart-of : (a b : Subscriber) → (shares a b ≡ true → Agree a b) → (linesApart a b && oneKind a b) ≡ true
@@ -218,9 +218,9 @@ apart-of a b f =
     (f (and-right (eqb (a .kind) 1 && eqb (b .kind) 1) (shares a b) e) .1))))
     (imp-of (shares a b) (eqb (a .kind) (b .kind)) (λ e. eq-eqb (a .kind) (b .kind) (f e .0)))
 
-apart-at : (a b : Subscriber) → (linesApart a b && oneKind a b) ≡ true → shares a b ≡ true → Agree a b
+pub agree-at : (a b : Subscriber) → (linesApart a b && oneKind a b) ≡ true → shares a b ≡ true → Agree a b
 unfolding linesApart oneKind
-apart-at a b e sh =
+agree-at a b e sh =
     let one : a .kind ≡ b .kind =
     eqb-true (a .kind) (b .kind) (imp-at (shares a b) (eqb (a .kind) (b .kind)) (and-right (linesApart a b) (oneKind a b) e) sh) in (
       one,
@@ -264,7 +264,7 @@ fits-is taken subs i 𝓣 one known small =
     may-take-of taken (s .kind) (box s y)
     (⊎-elim (λ z. inl (held ∙ z))
     (λ r.
-    let agree = apart-at (at subs (r .0)) s (every-at i (λ j. linesApart (at subs j) s && oneKind (at subs j) s) p (r .0) (r .1))
+    let agree = agree-at (at subs (r .0)) s (every-at i (λ j. linesApart (at subs j) s && oneKind (at subs j) s) p (r .0) (r .1))
     (shares-of (box s y) (at subs (r .0)) s (r .2) (holds-own s y h l)) in
     inr (held ∙ r .3 ∙ agree .0, agree .1))
     (last-is subs i (box s y))))))

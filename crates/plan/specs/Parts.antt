@@ -1,10 +1,9 @@
 -- The parts of a plan that the rules speak of. Assumes nothing.
 use Prim.Native.Nat.{ℕ}
-use mathlib.Core.Bool.{Bool, _&&_}
+use mathlib.Core.Bool.{Bool, not, _&&_}
 use mathlib.Core.List.{List, []}
-use lib.Dec.{leb}
+use lib.Dec.{eqb, leb}
 use lib.ListN.{getD}
-use Rattle.typeset.specs.Sets.{has}
 use Rattle.plan.specs.declared.Region.{Region}
 use Rattle.plan.specs.declared.Region.the-variants.{Source, Target}
 use Rattle.plan.specs.declared.Types.{Types}
@@ -24,13 +23,13 @@ abbrev pub subscribed : Region → Subscriber → ℕ
 subscribed Source s = s .source
 subscribed Target s = s .target
 
--- a precedes b in an order: b is in row a
-unfoldable pub precedes : List ℕ → ℕ → ℕ → Bool
-precedes rows a b = has b (getD rows a 0)
-
 -- an address as a number: 0, which is no address, or 1 to 999,999,999
 unfoldable pub legal : ℕ → Bool
 legal a = leb a 999999999
+
+-- one that somebody can have: it is not 0
+unfoldable pub given : ℕ → Bool
+given a = legal a && not (eqb a 0)
 
 -- a box number: 1 to 65,535
 unfoldable pub boxNumber : ℕ → Bool

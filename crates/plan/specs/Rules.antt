@@ -1,16 +1,16 @@
--- The rules of a plan, L1 to L20: each of them one test, in the order of document 01 (manual 3.3 to 3.5). Assumes nothing.
+-- The rules of a plan that are not rules of an order: L1, L6, L7 of the five sets, L10 to L16 of a subscriber, L17 to L19 of a subscriber and those before it, and L20.
+-- (L2 to L5, L8 and L9 are in the crate `order`.) Assumes nothing.
 use Prim.Native.Nat.{ℕ, _-_}
-use mathlib.Core.Bool.{Bool, true, not, _&&_, _||_, cond}
+use mathlib.Core.Bool.{Bool, true, not, _&&_, cond}
 use mathlib.Core.List.{List}
 use lib.Dec.{eqb, ltb, leb}
-use lib.ListN.{getD}
 use Rattle.typeset.specs.Sets.{has, every, some, within, meet, implies, same}
 use Rattle.plan.specs.declared.Region.the-variants.{Source, Target}
 use Rattle.plan.specs.declared.Types.{Types}
 use Rattle.plan.specs.declared.Subscriber.{Subscriber}
-use Rattle.plan.specs.Parts.{choice, precedes, legal, boxNumber, at, box}
+use Rattle.plan.specs.Parts.{choice, given, boxNumber, at, box}
 
--- ---- the five sets
+-- ---- the five sets (manual 3.3)
 
 -- L1: the bound and the reversible types, and those of each choice, exist
 unfoldable pub typesExist : Types → Bool
@@ -26,42 +26,7 @@ reversibleInBoth t = within (t .reversible) (choice Source t) && within (t .reve
 unfoldable pub boundInBoth : Types → Bool
 boundInBoth t = within (meet (t .bound) (meet (choice Source t) (choice Target t))) (t .reversible)
 
--- ---- an order, of either region
-
--- L2: a row has only types of the region's choice
-unfoldable pub rowsInChoice : ℕ → List ℕ → Bool
-rowsInChoice chosen rows = every 32 (λ t. within (getD rows t 0) chosen)
-
--- L3: the row of a type outside the choice is empty
-unfoldable pub emptyOutside : ℕ → List ℕ → Bool
-emptyOutside chosen rows = every 32 (λ t. has t chosen || eqb (getD rows t 0) 0)
-
--- L4: no type precedes itself
-unfoldable pub irreflexive : List ℕ → Bool
-irreflexive rows = every 32 (λ t. not (precedes rows t t))
-
--- L5: where a precedes b and b precedes c, a precedes c
-unfoldable pub transitive : List ℕ → Bool
-transitive rows =
-    every 32 (λ a. every 32 (λ b. implies (precedes rows a b) (every 32 (λ c. implies (precedes rows b c) (precedes rows a c)))))
-
--- ---- the two orders
-
--- a and b are two types of the set s
-unfoldable pub twoOf : ℕ → ℕ → ℕ → Bool
-twoOf s a b = has a s && has b s && not (eqb a b)
-
--- L8: any two reversible types are ordered in the source order
-unfoldable pub reversibleOrdered : ℕ → List ℕ → Bool
-reversibleOrdered reversible source =
-    every 32 (λ a. every 32 (λ b. implies (twoOf reversible a b) (precedes source a b || precedes source b a)))
-
--- L9: and the other way round in the target order
-unfoldable pub reversibleOpposed : ℕ → List ℕ → List ℕ → Bool
-reversibleOpposed reversible source target =
-    every 32 (λ a. every 32 (λ b. implies (twoOf reversible a b) (same (precedes source a b) (precedes target b a))))
-
--- ---- a subscriber by itself
+-- ---- a subscriber by itself (manual 2.3, 2.5, 3.5)
 
 -- L10: its kind is 1 line, 2 trunk, 3 resource or 4 mobile
 unfoldable pub kindKnown : Subscriber → Bool
@@ -69,9 +34,9 @@ kindKnown s = leb 1 (s .kind) && leb (s .kind) 4
 
 -- L11: its address is legal, and not 0
 unfoldable pub addressGiven : Subscriber → Bool
-addressGiven s = legal (s .address) && not (eqb (s .address) 0)
+addressGiven s = given (s .address)
 
--- L12: box numbers by kind: a line has exactly 1, a trunk 0 to 4, a resource 1 to 4, a mobile 0
+-- L12: box numbers by kind: a line has exactly 1, a trunk 0 to 4, a resource 1 to 4, a mobile 0. Any other kind breaks L10, and this rule says nothing of it
 unfoldable pub countFits : Subscriber → Bool
 countFits s =
     cond (eqb (s .kind) 1) (eqb (s .count) 1)
@@ -99,7 +64,7 @@ numbersDiffer s = every 4 (λ x. every x (λ y. implies (ltb x (s .count)) (not 
 unfoldable pub boxesBlank : Subscriber → Bool
 boxesBlank s = every 4 (λ x. implies (leb (s .count) x) (eqb (box s x) 0))
 
--- ---- a subscriber and those before it
+-- ---- a subscriber and those before it (manual 2.5)
 
 -- n is one of its box numbers
 unfoldable pub holds : ℕ → Subscriber → Bool

@@ -4,6 +4,10 @@ use mathlib.Core.Bool.{Bool, true, false, _&&_}
 use mathlib.Core.List.{List, [], _∷_}
 use lib.Dec.{leb}
 use Rattle.refusal.specs.declared.Refusal.the-variants.{RuleBroken}
+use Rattle.refusal.specs.declared.Place.{Place}
+use Rattle.refusal.specs.declared.Place.the-variants.{Nowhere}
+use Rattle.refusal.specs.Numbers.{numberOf, placeOf}
+use Rattle.order.specs.Rules.{rowsInChoice, emptyOutside, irreflexive, transitive, reversibleOrdered, reversibleOpposed, orderSound}
 use Rattle.typeset.specs.Sets.{every}
 use Rattle.plan.specs.declared.Region.the-variants.{Source, Target}
 use Rattle.plan.specs.declared.Types.{Types}
@@ -12,15 +16,11 @@ use Rattle.plan.specs.declared.Plan.{Plan}
 use Rattle.plan.specs.declared.Verdict.{Verdict}
 use Rattle.plan.specs.declared.Verdict.the-variants.{Sound, Refused}
 use Rattle.plan.specs.Parts.{choice, order, at}
-use Rattle.plan.specs.Rules.{typesExist, reversibleInBoth, boundInBoth, rowsInChoice, emptyOutside, irreflexive, transitive, reversibleOrdered, reversibleOpposed, kindKnown, addressGiven, countFits, numbersGiven, setsInChoices, reversibleTwice, numbersDiffer, boxesBlank, linesApart, oneKind, ascends, restBlank}
+use Rattle.plan.specs.Rules.{typesExist, reversibleInBoth, boundInBoth, kindKnown, addressGiven, countFits, numbersGiven, setsInChoices, reversibleTwice, numbersDiffer, boxesBlank, linesApart, oneKind, ascends, restBlank}
 
 -- tag 2, the five sets: L1, L6, L7
 unfoldable pub typesSound : Types → Bool
 typesSound t = typesExist t && reversibleInBoth t && boundInBoth t
-
--- an order of a region with this choice: L2 to L5
-unfoldable pub orderSound : ℕ → List ℕ → Bool
-orderSound chosen rows = rowsInChoice chosen rows && emptyOutside chosen rows && irreflexive rows && transitive rows
 
 -- tag 3, the source order: L2 to L5, L8
 unfoldable pub sourceSound : Types → List ℕ → Bool
@@ -30,11 +30,11 @@ sourceSound t source = orderSound (choice Source t) source && reversibleOrdered 
 unfoldable pub targetSound : Types → List ℕ → List ℕ → Bool
 targetSound t source target = orderSound (choice Target t) target && reversibleOpposed (t .reversible) source target
 
--- the box numbers of a subscriber: L13, L16, L20
+-- the box numbers of a subscriber: L13, L16, and L20 of its own places
 unfoldable pub boxesSound : Subscriber → Bool
 boxesSound s = numbersGiven s && numbersDiffer s && boxesBlank s
 
--- tag 5, a subscriber by itself: L10 to L16, L20
+-- tag 5, a subscriber by itself: L10 to L16, and L20 of its own places
 unfoldable pub ownSound : Types → Subscriber → Bool
 ownSound t s = kindKnown s && addressGiven s && countFits s && setsInChoices t s && reversibleTwice t s && boxesSound s
 
@@ -42,7 +42,7 @@ ownSound t s = kindKnown s && addressGiven s && countFits s && setsInChoices t s
 unfoldable pub numbersApart : List Subscriber → ℕ → Bool
 numbersApart subs i = every i (λ j. linesApart (at subs j) (at subs i) && oneKind (at subs j) (at subs i))
 
--- tag 5, the subscriber at place i: L10 to L20
+-- tag 5, the subscriber at place i: L10 to L19, and L20 of its own places
 unfoldable pub subscriberSound : Types → List Subscriber → ℕ → Bool
 subscriberSound t subs i = ownSound t (at subs i) && ascends subs i && numbersApart subs i
 
@@ -101,3 +101,12 @@ verdictOf false = Refused (RuleBroken 0)
 
 unfoldable pub verdict : Plan → Verdict
 verdict p = verdictOf (sound p)
+
+-- what a verdict is in document 01's numbers: 0 for sound, else the number of the refusal; and the refusal's place
+abbrev pub numberSaid : Verdict → ℕ
+numberSaid Sound = 0
+numberSaid (Refused r) = numberOf r
+
+abbrev pub placeSaid : Verdict → Place
+placeSaid Sound = Nowhere
+placeSaid (Refused r) = placeOf r

@@ -1,6 +1,7 @@
 -- A table of the box numbers that are taken, for L17 and L18: at place n the kind of the subscribers that have the number n, 0 where nobody has it.
+-- (No subscriber that keeps L10 has the kind 0.)
 -- Assumes nothing.
-use Prim.Native.Nat.{ℕ, min}
+use Prim.Native.Nat.{ℕ}
 use mathlib.Core.Bool.{Bool, not, _&&_, _||_}
 use mathlib.Core.List.{List, [], _∷_}
 use lib.Dec.{eqb, ltb}

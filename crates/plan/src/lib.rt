@@ -1,16 +1,17 @@
 // The plan of a switchboard: which box types there are, how they are ordered, and who subscribes to what.
 ghost use mathlib.Core.Path.{_≡_};
-ghost use mathlib.Core.Bool.{true, _&&_};
+ghost use mathlib.Core.Bool.{_&&_, cond};
+ghost use Prim.Native.Nat.{_-_, _<_, _≤_, min};
 ghost use lib.Dec.{leb, eqb};
 ghost use lib.ListN.{length, getD, set, replicate};
-ghost use Prim.Native.Nat.{_-_, _<_, _≤_, min};
-ghost use Rattle.typeset.specs.Sets.{every, same};
-ghost use Rattle.plan.specs.Parts.{legal, boxNumber};
-ghost use Rattle.plan.specs.Rules.{typesExist, reversibleInBoth, boundInBoth, twoOf, reversibleOrdered, reversibleOpposed, kindKnown, addressGiven, countFits, setsInChoices, reversibleTwice, blank, restBlank};
-ghost use Rattle.plan.specs.Sound.{typesSound, orderSound, sourceSound, targetSound, boxesSound, ownSound, subscriberSound, sound, verdict};
+ghost use Rattle.refusal.specs.declared.Place.the-variants.{Nowhere, At};
+ghost use Rattle.typeset.specs.Sets.{every};
+ghost use Rattle.plan.specs.Parts.{legal, given, boxNumber};
+ghost use Rattle.plan.specs.Rules.{typesExist, reversibleInBoth, boundInBoth, kindKnown, addressGiven, countFits, setsInChoices, reversibleTwice, blank, restBlank};
+ghost use Rattle.plan.specs.Sound.{typesSound, sourceSound, targetSound, boxesSound, ownSound, subscriberSound, sound, verdict, numberSaid, placeSaid};
 ghost use Rattle.plan.specs.Find.{lookup};
 ghost use Rattle.plan.specs.Table.{mayTake, fits, claimed};
-ghost use Rattle.plan.specs.Steps.{carries, closed, emptyUnless, rowSound, pairOrdered, orderedAt, pairOpposed, opposedAt, differsFrom, differsAt, boxSound, above, fitsAt};
+ghost use Rattle.plan.specs.Steps.{differsFrom, differsAt, boxSound, above, fitsAt};
 use refusal::Refusal;
 
 // A region of a usage: the boxes of the caller's address, and those of the callee's.
@@ -67,6 +68,16 @@ pub fn legal(address: u32) -> bool
     ensures { λ r. ⌜ r ≡ legal address ⌝ }
 {
     address <= 999_999_999
+}
+
+// Whether a number can be somebody's address.
+fn given(address: u32) -> bool
+    ensures { λ r. ⌜ r ≡ given address ⌝ }
+{
+    if !legal(address) {
+        return false;
+    }
+    address != 0
 }
 
 // Whether a number of 16 bits can be a box number: 1 to 65,535.
@@ -128,183 +139,24 @@ pub fn types_sound(t: Types) -> bool
 
 // ---- the orders
 
-// Whether a row that holds b holds whatever b comes before.
-fn carries(rows: [u32; 32], row: u32, b: u32) -> bool
-    ensures { λ r. ⌜ r ≡ carries rows row b ⌝ }
-{
-    if typeset::has(row, b) {
-        let after = rows[b as usize];
-        typeset::within(after, row)
-    } else {
-        true
-    }
-}
-
-// Whether that is so for each type of the row.
-fn closed(rows: [u32; 32], row: u32) -> bool
-    ensures { λ r. ⌜ r ≡ closed rows row ⌝ }
-{
-    for b in 0u32..32u32 {
-        if !carries(rows, row, b) {
-            return false;
-        }
-    }
-    true
-}
-
-// Whether the type t is chosen or its row is empty.
-fn empty_unless(chosen: u32, t: u32, row: u32) -> bool
-    ensures { λ r. ⌜ r ≡ emptyUnless chosen t row ⌝ }
-{
-    if typeset::has(chosen, t) {
-        true
-    } else {
-        row == 0
-    }
-}
-
-// L2 to L5 at the type t.
-fn row_sound(chosen: u32, rows: [u32; 32], t: u32) -> bool
-    requires { ⌜ t < 32 ⌝ }
-    ensures { λ r. ⌜ r ≡ rowSound chosen rows t ⌝ }
-{
-    let row = rows[t as usize];
-    if !typeset::within(row, chosen) {
-        return false;
-    }
-    if !empty_unless(chosen, t, row) {
-        return false;
-    }
-    if typeset::has(row, t) {
-        return false;
-    }
-    closed(rows, row)
-}
-
-// Whether the order of a region with this choice keeps L2 to L5.
-pub fn order_sound(chosen: u32, rows: [u32; 32]) -> bool
-    ensures { λ r. ⌜ r ≡ orderSound chosen rows ⌝ }
-{
-    for t in 0u32..32u32 {
-        if !row_sound(chosen, rows, t) {
-            return false;
-        }
-    }
-    true
-}
-
-// Whether a and b are two types of the set.
-fn two_of(set: u32, a: u32, b: u32) -> bool
-    ensures { λ r. ⌜ r ≡ twoOf set a b ⌝ }
-{
-    if !typeset::has(set, a) {
-        return false;
-    }
-    if !typeset::has(set, b) {
-        return false;
-    }
-    a != b
-}
-
-// L8 at the types a and b.
-fn pair_ordered(reversible: u32, source: [u32; 32], a: u32, b: u32) -> bool
-    requires { ⌜ (a < 32) × (b < 32) ⌝ }
-    ensures { λ r. ⌜ r ≡ pairOrdered reversible source a b ⌝ }
-{
-    if !two_of(reversible, a, b) {
-        return true;
-    }
-    if typeset::has(source[a as usize], b) {
-        return true;
-    }
-    typeset::has(source[b as usize], a)
-}
-
-fn ordered_at(reversible: u32, source: [u32; 32], a: u32) -> bool
-    requires { ⌜ a < 32 ⌝ }
-    ensures { λ r. ⌜ r ≡ orderedAt reversible source a ⌝ }
-{
-    for b in 0u32..32u32 {
-        if !pair_ordered(reversible, source, a, b) {
-            return false;
-        }
-    }
-    true
-}
-
-// L8
-fn reversible_ordered(reversible: u32, source: [u32; 32]) -> bool
-    ensures { λ r. ⌜ r ≡ reversibleOrdered reversible source ⌝ }
-{
-    for a in 0u32..32u32 {
-        if !ordered_at(reversible, source, a) {
-            return false;
-        }
-    }
-    true
-}
-
 // Whether the source order keeps its rules, with the five sets.
 pub fn source_sound(t: Types, source: [u32; 32]) -> bool
     ensures { λ r. ⌜ r ≡ sourceSound t source ⌝ }
 {
-    if !order_sound(t.source_choice, source) {
+    if !order::order_sound(t.source_choice, source) {
         return false;
     }
-    reversible_ordered(t.reversible, source)
-}
-
-fn same(a: bool, b: bool) -> bool
-    ensures { λ r. ⌜ r ≡ same a b ⌝ }
-{
-    if a { b } else { !b }
-}
-
-// L9 at the types a and b.
-fn pair_opposed(reversible: u32, source: [u32; 32], target: [u32; 32], a: u32, b: u32) -> bool
-    requires { ⌜ (a < 32) × (b < 32) ⌝ }
-    ensures { λ r. ⌜ r ≡ pairOpposed reversible source target a b ⌝ }
-{
-    if !two_of(reversible, a, b) {
-        return true;
-    }
-    let forth = typeset::has(source[a as usize], b);
-    let back = typeset::has(target[b as usize], a);
-    same(forth, back)
-}
-
-fn opposed_at(reversible: u32, source: [u32; 32], target: [u32; 32], a: u32) -> bool
-    requires { ⌜ a < 32 ⌝ }
-    ensures { λ r. ⌜ r ≡ opposedAt reversible source target a ⌝ }
-{
-    for b in 0u32..32u32 {
-        if !pair_opposed(reversible, source, target, a, b) {
-            return false;
-        }
-    }
-    true
-}
-
-// L9
-fn reversible_opposed(reversible: u32, source: [u32; 32], target: [u32; 32]) -> bool
-    ensures { λ r. ⌜ r ≡ reversibleOpposed reversible source target ⌝ }
-{
-    for a in 0u32..32u32 {
-        if !opposed_at(reversible, source, target, a) {
-            return false;
-        }
-    }
-    true
+    order::reversible_ordered(t.reversible, source)
 }
 
 // Whether the target order keeps its rules, with the five sets and the source order.
 pub fn target_sound(t: Types, source: [u32; 32], target: [u32; 32]) -> bool
     ensures { λ r. ⌜ r ≡ targetSound t source target ⌝ }
 {
-    if !order_sound(t.target_choice, target) {
+    if !order::order_sound(t.target_choice, target) {
         return false;
     }
-    reversible_opposed(t.reversible, source, target)
+    order::reversible_opposed(t.reversible, source, target)
 }
 
 // ---- a subscriber by itself
@@ -323,10 +175,7 @@ fn kind_known(s: Subscriber) -> bool
 fn address_given(s: Subscriber) -> bool
     ensures { λ r. ⌜ r ≡ addressGiven s ⌝ }
 {
-    if !legal(s.address) {
-        return false;
-    }
-    s.address != 0
+    given(s.address)
 }
 
 // L12
@@ -511,8 +360,8 @@ pub fn claim(taken: &mut [u8; 65536], s: Subscriber)
 
 // ---- the whole plan
 
-// L19: whether the address at place i comes after the one before it.
-fn above(i: usize, before: u32, address: u32) -> bool
+// L19: whether the address at place i comes after the one before it, which the first place has not.
+pub fn above(i: usize, before: u32, address: u32) -> bool
     ensures { λ r. ⌜ r ≡ above i before address ⌝ }
 {
     if 0 < i { before < address } else { true }
@@ -603,7 +452,7 @@ fn no_numbers(boxes: [u16; 4]) -> bool
     true
 }
 
-// L20: whether the places past the count are blank.
+// L20: whether the places past the count of subscribers are blank.
 fn rest_blank(subscribers: [Subscriber; 256], count: usize) -> bool
     requires { ⌜ count ≤ 256 ⌝ }
     ensures { λ r. ⌜ r ≡ restBlank subscribers count ⌝ }
@@ -647,6 +496,7 @@ pub fn sound(plan: Plan) -> bool
 // The test of any plan in memory: sound, or 23 at place 0.
 pub fn check(plan: Plan) -> Verdict
     ensures { λ r. ⌜ r ≡ verdict plan ⌝ }
+    ensures numbered { λ r. ⌜ (numberSaid r ≡ cond (sound plan) 0 23) × (placeSaid r ≡ cond (sound plan) Nowhere (At 0)) ⌝ }
 {
     if sound(plan) {
         Verdict::Sound
@@ -662,10 +512,13 @@ fn used(count: u16) -> usize
     if count < 256 { count as usize } else { 256 }
 }
 
-// The look-up of an address, in any plan: the first place in use that has it.
+// The look-up of an address, in any plan: the first place in use that has it. Nobody has 0, or a number that is no address.
 pub fn find(plan: Plan, address: u32) -> Found
     ensures { λ r. ⌜ r ≡ lookup plan address ⌝ }
 {
+    if !given(address) {
+        return Found::Nothing;
+    }
     let subscribers = plan.subscribers;
     let end = used(plan.count);
     for i in 0usize..end {

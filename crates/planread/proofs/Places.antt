@@ -11,15 +11,16 @@ use lib.ListN.{length, set}
 use lib.Seq.{getD-set-same, getD-set-other}
 use borrow.Author.Tests.{lt-ltb, eqb-false}
 use Rattle.typeset.specs.Sets.{every}
-use Rattle.typeset.proofs.Bools.{yes-or-no, both-ways, and-right, not-true}
+use Rattle.typeset.proofs.Bools.{yes-or-no, clash, both-ways}
 use Rattle.typeset.proofs.Below.{every-at, every-of}
 use Rattle.plan.specs.declared.Types.{Types}
 use Rattle.plan.specs.declared.Subscriber.{Subscriber}
-use Rattle.plan.specs.Parts.{at, legal}
+use Rattle.plan.specs.Parts.{at, given}
 use Rattle.plan.specs.Rules.{addressGiven, linesApart, oneKind, ascends}
 use Rattle.plan.specs.Sound.{ownSound, numbersApart, subscriberSound}
 use Rattle.plan.specs.Table.{fits}
 use Rattle.plan.proofs.Numbers.{lastKind, Taken}
+use Rattle.plan.proofs.Lookup.{zero-not-given}
 use Rattle.plan.proofs.Subscribers.{own-address, fits-code}
 
 -- the same subscribers in the first n places
@@ -80,7 +81,7 @@ ascends-next : (t : Types) (subs : List Subscriber) (i : ℕ) (s : Subscriber) �
     → ascends (set subs i s) i ≡ ltb (lastAddress subs i) (s .address)
 unfolding ascends lastAddress addressGiven
 ascends-next t subs zero s h own =
-    let given : ¬ (s .address ≡ 0) = eqb-false (s .address) 0 (not-true (eqb (s .address) 0) (and-right (legal (s .address)) (not (eqb (s .address) 0)) (own-address t s own))) in
+    let some : ¬ (s .address ≡ 0) = λ z. clash (own-address t s own) (ap given z ∙ zero-not-given) in
     sym (lt-ltb 0 (s .address) (omega arith))
 ascends-next t subs (suc i) s h own =
     let e : suc i - 1 ≡ i = omega arith in

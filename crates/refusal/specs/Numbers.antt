@@ -1,7 +1,7 @@
 -- What each refusal is in document 01: its number, and for 20 to 25 its place. Assumes nothing.
 use Prim.Native.Nat.{ℕ}
 use Rattle.refusal.specs.declared.Refusal.{Refusal}
-use Rattle.refusal.specs.declared.Refusal.the-variants.{NoSuchType, NotForThisBox, NoSuchSource, NotReversible, Malformed, NotRoutedHere, BadString, OwnAddress, AddressTooLarge, NoSuchCall, NoFreeRecord, StateForbids, TooManyWaiting, NothingWaiting, NotOrdinary, RowTooLong, BrokenRecord, ListTooShort, WrongEnd, WrongTag, WrongLength, RuleBroken, TooManySubscribers, RoomTooShort}
+use Rattle.refusal.specs.declared.Refusal.the-variants.{NoSuchType, NotForThisBox, WrongAddress, NotReversible, Malformed, NotRoutedHere, BadString, OwnAddress, AddressTooLarge, NoSuchCall, NoFreeRecord, StateForbids, TooManyWaiting, NothingWaiting, NotOrdinary, RowTooLong, BrokenRecord, ListTooShort, WrongEnd, WrongTag, WrongLength, RuleBroken, TooManySubscribers, RoomTooShort}
 use Rattle.refusal.specs.declared.Place.{Place}
 use Rattle.refusal.specs.declared.Place.the-variants.{Nowhere, At}
 
@@ -9,7 +9,7 @@ use Rattle.refusal.specs.declared.Place.the-variants.{Nowhere, At}
 abbrev pub numberOf : Refusal → ℕ
 numberOf NoSuchType = 1
 numberOf NotForThisBox = 2
-numberOf NoSuchSource = 3
+numberOf WrongAddress = 3
 numberOf NotReversible = 4
 numberOf Malformed = 5
 numberOf NotRoutedHere = 6
@@ -36,7 +36,7 @@ numberOf (RoomTooShort at) = 25
 abbrev pub placeOf : Refusal → Place
 placeOf NoSuchType = Nowhere
 placeOf NotForThisBox = Nowhere
-placeOf NoSuchSource = Nowhere
+placeOf WrongAddress = Nowhere
 placeOf NotReversible = Nowhere
 placeOf Malformed = Nowhere
 placeOf NotRoutedHere = Nowhere

@@ -8,7 +8,7 @@ pub enum Refusal {
     // 2: a resource or error box makes a setup; an interface box continues or reverses one.
     NotForThisBox,
     // 3: a feature box's address that is not in the plan; a line's or trunk's source that is not of that kind.
-    NoSuchSource,
+    WrongAddress,
     // 4: a reversal by a type that is not reversible.
     NotReversible,
     // 5: a setup that is not well formed, or a continuation from a route that is no list.
@@ -53,7 +53,7 @@ pub enum Refusal {
     RoomTooShort(usize),
 }
 
-// Where in a plan file a refusal applies.
+// Where a refusal applies: in a plan file at the first byte of a field, and at 0 for a plan in memory and for the room.
 pub enum Place {
     Nowhere,
     At(usize),
@@ -67,7 +67,7 @@ impl Refusal {
         match self {
             Refusal::NoSuchType => 1,
             Refusal::NotForThisBox => 2,
-            Refusal::NoSuchSource => 3,
+            Refusal::WrongAddress => 3,
             Refusal::NotReversible => 4,
             Refusal::Malformed => 5,
             Refusal::NotRoutedHere => 6,
@@ -99,7 +99,7 @@ impl Refusal {
         match self {
             Refusal::NoSuchType => Place::Nowhere,
             Refusal::NotForThisBox => Place::Nowhere,
-            Refusal::NoSuchSource => Place::Nowhere,
+            Refusal::WrongAddress => Place::Nowhere,
             Refusal::NotReversible => Place::Nowhere,
             Refusal::Malformed => Place::Nowhere,
             Refusal::NotRoutedHere => Place::Nowhere,

@@ -1,3 +1,4 @@
 pub mod Bools
 pub mod Below
 pub mod Laws
+pub mod Exact

@@ -16,11 +16,11 @@ pub fn without(set: u32, t: u32) -> u32
     if t < 32 { set & !(1u32 << t) } else { set }
 }
 
-// Whether each type of a is in b.
-pub fn within(a: u32, b: u32) -> bool
-    ensures { λ r. ⌜ r ≡ within a b ⌝ }
+// Whether each type of the part is in the whole.
+pub fn within(part: u32, whole: u32) -> bool
+    ensures { λ r. ⌜ r ≡ within part whole ⌝ }
 {
-    a & b == a
+    part & whole == part
 }
 
 // The lowest type of the set, 32 where it is empty.

@@ -7,8 +7,8 @@ use lib.Dec.{eqb}
 use Rattle.typeset.specs.Sets.{has, digit, every, some, least, count, setOf, without, lowest, size, minus}
 use Rattle.typeset.proofs.Below.{setOf-lt, setOf-ext, some-ext, least-ext, count-ext}
 use Rattle.typeset.proofs.Laws.{has-setOf}
-use Rattle.plan.specs.Parts.{precedes}
-use Rattle.zone.specs.Order.{preceded, first, next, zoneFrom, zoneList}
+use Rattle.order.specs.Rules.{precedes}
+use Rattle.zone.specs.Order.{preceded, unpreceded, next, zoneFrom, zoneList}
 use Rattle.zone.proofs.Precedence.{Strict}
 use Rattle.zone.proofs.Members.{times, elem, ahead, zone-once, zone-members, zone-below, zone-sorted, InOrder, zone-in-order, in-order-zone}
 
@@ -29,8 +29,8 @@ module _ (rows : List ℕ) (s : ℕ) where
   unfolding preceded
   preceded-low = setOf-ext 32 _ _ (λ t h. some-ext 32 _ _ (λ u l. ap (λ (b : Bool). b && precedes rows u t) (sym (has-low s u l))))
 
-  first-low : first rows s ≡ first rows (low s)
-  unfolding first minus
+  first-low : unpreceded rows s ≡ unpreceded rows (low s)
+  unfolding unpreceded minus
   first-low = setOf-ext 32 _ _ (λ t h. ap₂ (λ (b : Bool) (f : ℕ). b && not (has t f)) (sym (has-low s t h)) preceded-low)
 
   lowest-low : lowest s ≡ lowest (low s)

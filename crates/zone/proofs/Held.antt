@@ -1,13 +1,13 @@
--- A zone as the program holds it, `zoneOf`: its first `len` places are the zone, and the others are 0. Assumes nothing.
-use mathlib.Core.Path.{_≡_, refl, sym, ap, ap₂, _∙_}
+-- A list of types as the program holds it, `held`: its first `len` places are the list, and the others are 0. Assumes nothing.
+use mathlib.Core.Path.{_≡_, refl, sym, ap, _∙_}
 use mathlib.Core.List.{List, _++_}
 use Prim.Native.Nat.{ℕ, zero, suc, _-_, _≤_}
 use native.Mathlib.Nat.{zero-add, sub-zero, suc-sub-suc, zero-sub}
 use lib.ListN.{length, take, drop, replicate, length-replicate}
 use lib.Seq.{sets, length-sets, sets-eq, take-at}
-use Rattle.typeset.specs.Sets.{size}
 use Rattle.typeset.proofs.Laws.{size-le}
-use Rattle.zone.specs.Order.{zoneList, zoneOf}
+use Rattle.zone.specs.declared.Zone.{Zone}
+use Rattle.zone.specs.Order.{zoneList, held}
 use Rattle.zone.proofs.Members.{zone-length}
 
 drop-replicate : (k n a : ℕ) → drop k (replicate n a) ≡ replicate (n - k) a
@@ -21,25 +21,25 @@ stores-pad n xs h =
     sets-eq xs (replicate n 0) 0 (simp (length-replicate, zero-add) h)
     ∙ ap (λ (l : List ℕ). xs ++ l) (ap (λ (k : ℕ). drop k (replicate n 0)) (zero-add (length xs)) ∙ drop-replicate (length xs) n 0)
 
--- so for a zone: what a loop that stores it leaves
-pub zone-stored : (rows : List ℕ) (s : ℕ) → sets (replicate 32 0) 0 (zoneList rows s) ≡ zoneList rows s ++ replicate (32 - size s) 0
-zone-stored rows s =
-    let e = zone-length rows s in
-    stores-pad 32 (zoneList rows s) (rw e (size-le s)) ∙ ap (λ (k : ℕ). zoneList rows s ++ replicate (32 - k) 0) e
+-- ---- what a list of at most 32 types is as the program holds it
 
-pub held-types : (rows : List ℕ) (s : ℕ) → zoneOf rows s .types ≡ zoneList rows s ++ replicate (32 - size s) 0
-unfolding zoneOf
-held-types rows s = refl
+-- what a loop that stores it leaves
+pub held-stored : (l : List ℕ) → length l ≤ 32 → sets (replicate 32 0) 0 l ≡ held l .types
+unfolding held
+held-stored l h = stores-pad 32 l h
 
-pub held-len : (rows : List ℕ) (s : ℕ) → zoneOf rows s .len ≡ size s
-unfolding zoneOf
-held-len rows s = refl
-
-pub held-length : (rows : List ℕ) (s : ℕ) → length (zoneOf rows s .types) ≡ 32
-held-length rows s = ap length (held-types rows s ∙ sym (zone-stored rows s)) ∙ length-sets (replicate 32 0) 0 (zoneList rows s)
+pub held-length : (l : List ℕ) → length l ≤ 32 → length (held l .types) ≡ 32
+held-length l h = ap length (sym (held-stored l h)) ∙ length-sets (replicate 32 0) 0 l
 
 -- what a reader of the first `len` places gets
-pub held-zone : (rows : List ℕ) (s : ℕ) → take (zoneOf rows s .len) (zoneOf rows s .types) ≡ zoneList rows s
-held-zone rows s =
-    ap₂ (λ (n : ℕ) (l : List ℕ). take n l) (held-len rows s) (held-types rows s)
-    ∙ take-at (zoneList rows s) (replicate (32 - size s) 0) (size s) (zone-length rows s)
+pub held-list : (l : List ℕ) → take (held l .len) (held l .types) ≡ l
+unfolding held
+held-list l = take-at l (replicate (32 - length l) 0) (length l) refl
+
+-- so two lists that are held alike are equal
+pub held-one : (k l : List ℕ) → held k ≡ held l → k ≡ l
+held-one k l e = sym (held-list k) ∙ ap (λ (z : Zone). take (z .len) (z .types)) e ∙ held-list l
+
+-- a zone has at most 32 types
+pub zone-fits : (rows : List ℕ) (s : ℕ) → length (zoneList rows s) ≤ 32
+zone-fits rows s = rw (zone-length rows s) (size-le s)

@@ -5,3 +5,4 @@ pub mod Members
 pub mod Held
 pub mod AnySet
 pub mod PlanZones
+pub mod Exact

@@ -14,7 +14,7 @@ use Rattle.typeset.specs.Sets.{has, digit, without, size}
 use Rattle.typeset.proofs.Bools.{yes-or-no, clash, and-make, or-left, or-right, not-of-false}
 use Rattle.typeset.proofs.Laws.{has-below, has-empty, has-without, without-lt, size-zero, size-empty, size-code}
 use Rattle.zone.specs.Order.{next, zoneFrom, zoneList}
-use Rattle.plan.specs.Parts.{precedes}
+use Rattle.order.specs.Rules.{precedes}
 use Rattle.zone.proofs.Rows.{next-has}
 use Rattle.zone.proofs.Zones.{zone-empty, zone-step, size-step}
 use Rattle.zone.proofs.Precedence.{Strict, Next, next-is, next-one}

@@ -1,54 +1,36 @@
 -- The zones of a sound plan (manual 3.4 and 3.5): what an address has in a region, each once, in an order that the precedence allows. Assumes nothing.
-use mathlib.Core.Path.{_≡_, refl, sym, ap, ap₂, _∙_}
+use mathlib.Core.Path.{_≡_, sym, ap, _∙_}
 use mathlib.Core.Bool.{Bool, true, false, false≢true}
 use lib.Dec.{lit≤}
-use mathlib.Core.List.{List, [], _++_}
-use Prim.Native.Nat.{ℕ, _-_, _≤_, _<_}
-use lib.ListN.{length, take, replicate}
+use mathlib.Core.List.{List, []}
+use Prim.Native.Nat.{ℕ, _≤_, _<_}
+use lib.ListN.{length}
 use Rattle.typeset.specs.Sets.{has, digit, size}
-use Rattle.typeset.proofs.Laws.{size-le}
 use Rattle.plan.specs.declared.Region.{Region}
 use Rattle.plan.specs.declared.Region.the-variants.{Source, Target}
 use Rattle.plan.specs.declared.Plan.{Plan}
 use Rattle.plan.specs.declared.Found.{Found}
 use Rattle.plan.specs.declared.Found.the-variants.{At, Nothing}
-use Rattle.plan.specs.Parts.{choice, order, subscribed, precedes, legal, at}
-use Rattle.plan.specs.Sound.{sound}
+use Rattle.plan.specs.Parts.{choice, order, subscribed, legal, at}
+use Rattle.order.specs.Rules.{precedes}
+use Rattle.plan.specs.declared.Verdict.the-variants.{Sound, Refused}
+use Rattle.plan.specs.Sound.{sound, verdict}
+use Rattle.refusal.specs.declared.Refusal.the-variants.{RuleBroken}
 use Rattle.plan.specs.Find.{lookup}
-use Rattle.plan.proofs.Lookup.{found-used}
-use Rattle.plan.proofs.Laws.{used-all, subscribed-chosen, reversible-twice, found-no-zero, found-no-illegal}
-use Rattle.zone.specs.declared.Zone.{Zone}
-use Rattle.zone.specs.Order.{zoneList, zoneOf}
-use Rattle.zone.specs.Answer.{listFor, zoneAt, emptyZone, heldFor, heldAt}
+use Rattle.plan.proofs.Lookup.{found-used, lookup-not-given, zero-not-given, illegal-not-given}
+use Rattle.plan.proofs.Laws.{used-all, subscribed-chosen, reversible-twice}
+use Rattle.zone.specs.Order.{zoneList, held}
+use Rattle.zone.specs.Answer.{zoneFor, zoneAt, answer}
 use Rattle.zone.proofs.Precedence.{strict-order}
 use Rattle.zone.proofs.Members.{times, elem, ahead, zone-length, InOrder}
-use Rattle.zone.proofs.Held.{held-types, held-len, held-zone, held-length}
+use Rattle.zone.proofs.Held.{zone-fits}
 use Rattle.zone.proofs.AnySet.{low, any-once, any-members, any-below, any-sorted, any-in-order, any-one}
 
--- ---- any plan: the zone that the program holds is the list, with 0 in the places that are left
+-- ---- any plan
 
-held-of : (p : Plan) (r : Region) (f : Found)
-    → (heldFor p r f .types ≡ listFor p r f ++ replicate (32 - length (listFor p r f)) 0) × (heldFor p r f .len ≡ length (listFor p r f))
-unfolding heldFor listFor
-held-of p r (At i) =
-    let e = zone-length (order r p) (subscribed r (at (p .subscribers) i)) in (
-      held-types (order r p) (subscribed r (at (p .subscribers) i))
-          ∙ ap (λ (n : ℕ). zoneList (order r p) (subscribed r (at (p .subscribers) i)) ++ replicate (32 - n) 0) (sym e),
-      held-len (order r p) (subscribed r (at (p .subscribers) i)) ∙ sym e,
-    )
-held-of p r Nothing = (refl, refl)
-
-pub held-at-types : (p : Plan) (r : Region) (a : ℕ) → heldAt p r a .types ≡ zoneAt p r a ++ replicate (32 - length (zoneAt p r a)) 0
-unfolding heldAt zoneAt
-held-at-types p r a = held-of p r (lookup p a) .0
-
-pub held-at-len : (p : Plan) (r : Region) (a : ℕ) → heldAt p r a .len ≡ length (zoneAt p r a)
-unfolding heldAt zoneAt
-held-at-len p r a = held-of p r (lookup p a) .1
-
-short-of : (p : Plan) (r : Region) (f : Found) → length (listFor p r f) ≤ 32
-unfolding listFor
-short-of p r (At i) = rw (zone-length (order r p) (subscribed r (at (p .subscribers) i))) (size-le (subscribed r (at (p .subscribers) i)))
+short-of : (p : Plan) (r : Region) (f : Found) → length (zoneFor p r f) ≤ 32
+unfolding zoneFor
+short-of p r (At i) = zone-fits (order r p) (subscribed r (at (p .subscribers) i))
 short-of p r Nothing = lit≤ tt
 
 -- at most 32 types
@@ -56,8 +38,8 @@ pub zone-short : (p : Plan) (r : Region) (a : ℕ) → length (zoneAt p r a) ≤
 unfolding zoneAt
 zone-short p r a = short-of p r (lookup p a)
 
-below-of : (p : Plan) (r : Region) (f : Found) (t : ℕ) → elem t (listFor p r f) ≡ true → t < 32
-unfolding listFor elem
+below-of : (p : Plan) (r : Region) (f : Found) (t : ℕ) → elem t (zoneFor p r f) ≡ true → t < 32
+unfolding zoneFor elem
 below-of p r (At i) t e = any-below (order r p) (subscribed r (at (p .subscribers) i)) t e
 below-of p r Nothing t e = absurd (false≢true e)
 
@@ -67,24 +49,34 @@ zone-types p r a t e = below-of p r (lookup p a) t e
 
 -- an address that is not in the plan has empty zones
 pub zone-nobody : (p : Plan) (r : Region) (a : ℕ) → lookup p a ≡ Nothing → zoneAt p r a ≡ []
-unfolding zoneAt listFor
+unfolding zoneAt zoneFor
 zone-nobody p r a e = rw e
 
 -- that of one who is found
 pub zone-found : (p : Plan) (r : Region) (a i : ℕ) → lookup p a ≡ At i
     → zoneAt p r a ≡ zoneList (order r p) (subscribed r (at (p .subscribers) i))
-unfolding zoneAt listFor
+unfolding zoneAt zoneFor
 zone-found p r a i e = rw e
+
+-- 0 has empty zones, and so has a number that is no address
+pub zone-zero : (p : Plan) (r : Region) → zoneAt p r 0 ≡ []
+zone-zero p r = zone-nobody p r 0 (lookup-not-given p 0 zero-not-given)
+
+pub zone-illegal : (p : Plan) (r : Region) (a : ℕ) → legal a ≡ false → zoneAt p r a ≡ []
+zone-illegal p r a e = zone-nobody p r a (lookup-not-given p a (illegal-not-given a e))
+
+-- ---- what is answered: the zone of a sound plan, and 23 at place 0 with an empty zone for any other
+
+pub answer-sound : (p : Plan) (r : Region) (a : ℕ) → sound p ≡ true → answer p r a ≡ record { verdict = Sound; zone = held (zoneAt p r a) }
+unfolding answer verdict
+answer-sound p r a e = rw e
+
+pub answer-refused : (p : Plan) (r : Region) (a : ℕ) → sound p ≡ false → answer p r a ≡ record { verdict = Refused (RuleBroken 0); zone = held [] }
+unfolding answer verdict
+answer-refused p r a e = rw e
 
 -- ---- a sound plan
 module _ (p : Plan) (𝓢 : sound p ≡ true) where
-  -- 0 has empty zones, and so has an address out of range
-  pub zone-zero : (r : Region) → zoneAt p r 0 ≡ []
-  zone-zero r = zone-nobody p r 0 (found-no-zero p 𝓢)
-
-  pub zone-illegal : (r : Region) (a : ℕ) → legal a ≡ false → zoneAt p r a ≡ []
-  zone-illegal r a e = zone-nobody p r a (found-no-illegal p 𝓢 a e)
-
   module _ (a i : ℕ) (found : lookup p a ≡ At i) where
     count-above : i < p .count
     count-above = rw (← used-all p 𝓢) (found-used p a i found)

@@ -14,10 +14,11 @@ use Rattle.typeset.proofs.Below.{every-at, some-of, some-at, count-less}
 use Rattle.typeset.proofs.Laws.{within-below, has-below, has-empty, lowest-has, lowest-lt, lowest-min}
 use Rattle.plan.specs.declared.Region.{Region}
 use Rattle.plan.specs.declared.Plan.{Plan}
-use Rattle.plan.specs.Parts.{order, precedes}
+use Rattle.order.specs.Rules.{precedes}
+use Rattle.plan.specs.Parts.{order}
 use Rattle.plan.specs.Sound.{sound}
 use Rattle.plan.proofs.Laws.{never-itself, through}
-use Rattle.zone.specs.Order.{preceded, first, next}
+use Rattle.zone.specs.Order.{preceded, unpreceded, next}
 use Rattle.zone.proofs.Rows.{before, has-preceded, first-lt, has-first, next-free}
 
 pub record Strict (rows : List ℕ) : Type 0 where
@@ -40,17 +41,17 @@ next-one rows s x y p q = le-antisymm (p .low y (q .inside) (q .free)) (q .low x
 
 module _ (rows : List ℕ) (s : ℕ) (h : s < 2 ^ 32) where
   -- t is first: it is in s, and nothing in s precedes it
-  pub first-of : (t : ℕ) → has t s ≡ true → ((u : ℕ) → has u s ≡ true → precedes rows u t ≡ false) → has t (first rows s) ≡ true
+  pub first-of : (t : ℕ) → has t s ≡ true → ((u : ℕ) → has u s ≡ true → precedes rows u t ≡ false) → has t (unpreceded rows s) ≡ true
   first-of t e f =
       has-first rows s t h
       ∙ and-make e (not-of-false (fails (has t (preceded rows s)) (λ p.
       let r = some-at 32 (before rows s t) (sym (has-preceded rows s t (has-below 32 t h e)) ∙ p) in
       clash (and-right (has (r .0) s) (precedes rows (r .0) t) (r .2)) (f (r .0) (and-left (has (r .0) s) (precedes rows (r .0) t) (r .2))))))
 
-  pub first-in : (t : ℕ) → has t (first rows s) ≡ true → has t s ≡ true
+  pub first-in : (t : ℕ) → has t (unpreceded rows s) ≡ true → has t s ≡ true
   first-in t e = and-left (has t s) (not (has t (preceded rows s))) (sym (has-first rows s t h) ∙ e)
 
-  pub first-free : (t : ℕ) → has t (first rows s) ≡ true → (u : ℕ) → has u s ≡ true → precedes rows u t ≡ false
+  pub first-free : (t : ℕ) → has t (unpreceded rows s) ≡ true → (u : ℕ) → has u s ≡ true → precedes rows u t ≡ false
   first-free t e u m =
       fails (precedes rows u t) (λ p.
       let no-one : has t (preceded rows s) ≡ false = not-true _ (and-right (has t s) (not (has t (preceded rows s))) (sym (has-first rows s t h) ∙ e)) in
@@ -58,7 +59,7 @@ module _ (rows : List ℕ) (s : ℕ) (h : s < 2 ^ 32) where
 
   module _ (𝓢 : Strict rows) where
     -- by the number of types of s that precede t: one of them has fewer
-    descend : (k t : ℕ) → has t s ≡ true → count 32 (before rows s t) < k → ¬ (first rows s ≡ 0)
+    descend : (k t : ℕ) → has t s ≡ true → count 32 (before rows s t) < k → ¬ (unpreceded rows s ≡ 0)
     descend zero t e l z = not-suc-le-zero l
     descend (suc k) t e l z =
         let lt : t < 32 = has-below 32 t h e in
@@ -77,16 +78,16 @@ module _ (rows : List ℕ) (s : ℕ) (h : s < 2 ^ 32) where
         (λ p. clash (has-first rows s t h ∙ and-make e (not-of-false p)) (ap (has t) z ∙ has-empty t))
         (yes-or-no (has t (preceded rows s)))
 
-    pub first-some : ¬ (s ≡ 0) → ¬ (first rows s ≡ 0)
+    pub first-some : ¬ (s ≡ 0) → ¬ (unpreceded rows s ≡ 0)
     first-some ne = descend (suc (count 32 (before rows s (lowest s)))) (lowest s) (lowest-has s (lowest-lt h ne)) (lt-suc-self _)
 
     pub next-is : ¬ (s ≡ 0) → Next rows s (next rows s)
     next-is ne =
-        let some-first : ¬ (first rows s ≡ 0) = first-some ne in
-        let e : next rows s ≡ lowest (first rows s) = next-free rows s (ne-eqb (first rows s) 0 some-first) in
-        let m : has (next rows s) (first rows s) ≡ true = rw e (lowest-has (first rows s) (lowest-lt (first-lt rows s) some-first)) in
+        let some-first : ¬ (unpreceded rows s ≡ 0) = first-some ne in
+        let e : next rows s ≡ lowest (unpreceded rows s) = next-free rows s (ne-eqb (unpreceded rows s) 0 some-first) in
+        let m : has (next rows s) (unpreceded rows s) ≡ true = rw e (lowest-has (unpreceded rows s) (lowest-lt (first-lt rows s) some-first)) in
         record {
           inside = first-in (next rows s) m;
           free = first-free (next rows s) m;
-          low = λ t i f. rw e (lowest-min (first rows s) t (first-of t i f));
+          low = λ t i f. rw e (lowest-min (unpreceded rows s) t (first-of t i f));
         }

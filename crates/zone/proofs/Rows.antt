@@ -12,8 +12,8 @@ use Rattle.typeset.specs.Sets.{has, some, join, lowest}
 use Rattle.typeset.proofs.Bools.{yes-or-no, and-left}
 use Rattle.typeset.proofs.Below.{some-last, setOf-lt}
 use Rattle.typeset.proofs.Laws.{has-ext, has-setOf, has-join-at, has-empty, minus-lt, has-minus, has-below, lowest-has, lowest-lt}
-use Rattle.zone.specs.Order.{preceded, first, next}
-use Rattle.plan.specs.Parts.{precedes}
+use Rattle.zone.specs.Order.{preceded, unpreceded, next}
+use Rattle.order.specs.Rules.{precedes}
 
 -- u is in s and comes before t
 abbrev pub before : List ℕ → ℕ → ℕ → ℕ → Bool
@@ -51,29 +51,29 @@ has-preceded rows s t h = has-setOf 32 _ t h
 -- ---- next
 
 -- where some type is first, next is the lowest of those; where none is, the lowest of all
-pub next-stuck : (rows : List ℕ) (s : ℕ) → first rows s ≡ 0 → next rows s ≡ lowest s
+pub next-stuck : (rows : List ℕ) (s : ℕ) → unpreceded rows s ≡ 0 → next rows s ≡ lowest s
 unfolding next
 next-stuck rows s e = rw e
 
-pub next-free : (rows : List ℕ) (s : ℕ) → eqb (first rows s) 0 ≡ false → next rows s ≡ lowest (first rows s)
+pub next-free : (rows : List ℕ) (s : ℕ) → eqb (unpreceded rows s) 0 ≡ false → next rows s ≡ lowest (unpreceded rows s)
 unfolding next
 next-free rows s e = rw e
 
-pub first-lt : (rows : List ℕ) (s : ℕ) → first rows s < 2 ^ 32
-unfolding first
+pub first-lt : (rows : List ℕ) (s : ℕ) → unpreceded rows s < 2 ^ 32
+unfolding unpreceded
 first-lt rows s = minus-lt s (preceded rows s)
 
-pub has-first : (rows : List ℕ) (s t : ℕ) → s < 2 ^ 32 → has t (first rows s) ≡ (has t s && not (has t (preceded rows s)))
-unfolding first
+pub has-first : (rows : List ℕ) (s t : ℕ) → s < 2 ^ 32 → has t (unpreceded rows s) ≡ (has t s && not (has t (preceded rows s)))
+unfolding unpreceded
 has-first rows s t h = has-minus (preceded rows s) t h
 
 pub next-has : (rows : List ℕ) {s : ℕ} → s < 2 ^ 32 → ¬ (s ≡ 0) → has (next rows s) s ≡ true
 next-has rows {s} h ne =
     ⊎-elim
-    (λ e. rw (next-stuck rows s (eqb-true (first rows s) 0 e)) (lowest-has s (lowest-lt h ne)))
+    (λ e. rw (next-stuck rows s (eqb-true (unpreceded rows s) 0 e)) (lowest-has s (lowest-lt h ne)))
     (λ e. rw (next-free rows s e)
-    (and-left _ _ (sym (has-first rows s _ h) ∙ lowest-has (first rows s) (lowest-lt (first-lt rows s) (eqb-false (first rows s) 0 e)))))
-    (yes-or-no (eqb (first rows s) 0))
+    (and-left _ _ (sym (has-first rows s _ h) ∙ lowest-has (unpreceded rows s) (lowest-lt (first-lt rows s) (eqb-false (unpreceded rows s) 0 e)))))
+    (yes-or-no (eqb (unpreceded rows s) 0))
 
 pub next-lt : (rows : List ℕ) {s : ℕ} → s < 2 ^ 32 → ¬ (s ≡ 0) → next rows s < 32
 next-lt rows {s} h ne = has-below 32 (next rows s) h (next-has rows h ne)

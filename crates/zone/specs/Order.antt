@@ -5,9 +5,9 @@ use Prim.Native.Nat.{ℕ, zero, suc, _-_}
 use mathlib.Core.Bool.{_&&_, cond}
 use mathlib.Core.List.{List, [], _∷_, _++_}
 use lib.Dec.{eqb}
-use lib.ListN.{replicate}
+use lib.ListN.{length, replicate}
 use Rattle.typeset.specs.Sets.{has, some, setOf, without, lowest, size, minus}
-use Rattle.plan.specs.Parts.{precedes}
+use Rattle.order.specs.Rules.{precedes}
 use Rattle.zone.specs.declared.Zone.{Zone}
 
 -- the types that some type of s precedes
@@ -15,12 +15,12 @@ unfoldable pub preceded : List ℕ → ℕ → ℕ
 preceded rows s = setOf 32 (λ t. some 32 (λ u. has u s && precedes rows u t))
 
 -- the types of s that no type of s precedes
-unfoldable pub first : List ℕ → ℕ → ℕ
-first rows s = minus s (preceded rows s)
+unfoldable pub unpreceded : List ℕ → ℕ → ℕ
+unpreceded rows s = minus s (preceded rows s)
 
 -- the lowest type of s that no type of s precedes. In an order with a cycle, which no sound plan has, there may be none: then the lowest type of s.
 unfoldable pub next : List ℕ → ℕ → ℕ
-next rows s = cond (eqb (first rows s) 0) (lowest s) (lowest (first rows s))
+next rows s = cond (eqb (unpreceded rows s) 0) (lowest s) (lowest (unpreceded rows s))
 
 -- n types of s: the next one, and n - 1 of those that then remain
 unfoldable pub zoneFrom : ℕ → List ℕ → ℕ → List ℕ
@@ -31,6 +31,6 @@ zoneFrom (suc n) rows s = next rows s ∷ zoneFrom n rows (without s (next rows 
 unfoldable pub zoneList : List ℕ → ℕ → List ℕ
 zoneList rows s = zoneFrom (size s) rows s
 
--- the zone as the program holds it: its types, then 0 in each place that is left of 32, and how many there are
-unfoldable pub zoneOf : List ℕ → ℕ → Zone
-zoneOf rows s = record { types = zoneList rows s ++ replicate (32 - size s) 0; len = size s }
+-- a list of types as the program holds it: then 0 in each place that is left of 32, and how many types there are
+unfoldable pub held : List ℕ → Zone
+held l = record { types = l ++ replicate (32 - length l) 0; len = length l }

@@ -1,7 +1,8 @@
 // The zone of an address in a region: the types that it subscribes to there, each once, in an order that the precedence allows.
 ghost use mathlib.Core.Path.{_≡_};
-ghost use Rattle.zone.specs.Order.{preceded, first, next, zoneOf};
-ghost use Rattle.zone.specs.Answer.{emptyZone, heldAt, answer};
+ghost use mathlib.Core.List.{[]};
+ghost use Rattle.zone.specs.Order.{preceded, unpreceded, next, zoneList, held};
+ghost use Rattle.zone.specs.Answer.{zoneAt, answer};
 use plan::Found;
 use plan::Plan;
 use plan::Region;
@@ -34,8 +35,8 @@ fn preceded(rows: [u32; 32], set: u32) -> u32
 }
 
 // The types of the set that no type of the set precedes.
-fn first(rows: [u32; 32], set: u32) -> u32
-    ensures { λ r. ⌜ r ≡ first rows set ⌝ }
+fn unpreceded(rows: [u32; 32], set: u32) -> u32
+    ensures { λ r. ⌜ r ≡ unpreceded rows set ⌝ }
 {
     typeset::minus(set, preceded(rows, set))
 }
@@ -44,7 +45,7 @@ fn first(rows: [u32; 32], set: u32) -> u32
 fn next(rows: [u32; 32], set: u32) -> u32
     ensures { λ r. ⌜ r ≡ next rows set ⌝ }
 {
-    let free = first(rows, set);
+    let free = unpreceded(rows, set);
     if free == 0 {
         typeset::lowest(set)
     } else {
@@ -54,7 +55,7 @@ fn next(rows: [u32; 32], set: u32) -> u32
 
 // The zone of the set under the order of the rows, for any rows and any set. What is kept is only the set of the types not yet placed.
 pub fn zone_of(rows: [u32; 32], set: u32) -> Zone
-    ensures { λ r. ⌜ r ≡ zoneOf rows set ⌝ }
+    ensures { λ r. ⌜ r ≡ held (zoneList rows set) ⌝ }
 {
     let mut types = [0u8; 32];
     let mut left = set;
@@ -72,7 +73,7 @@ pub fn zone_of(rows: [u32; 32], set: u32) -> Zone
 }
 
 fn empty_zone() -> Zone
-    ensures { λ r. ⌜ r ≡ emptyZone ⌝ }
+    ensures { λ r. ⌜ r ≡ held [] ⌝ }
 {
     Zone {
         types: [0u8; 32],
@@ -82,7 +83,7 @@ fn empty_zone() -> Zone
 
 // The zone of an address in a region, for any plan and any number: for a caller that has tested the plan. Nobody's zone is empty.
 pub fn zone_at(plan: Plan, region: Region, address: u32) -> Zone
-    ensures { λ r. ⌜ r ≡ heldAt plan region address ⌝ }
+    ensures { λ r. ⌜ r ≡ held (zoneAt plan region address) ⌝ }
 {
     let Found::At(i) = plan::find(plan, address) else {
         return empty_zone();

@@ -1,5 +1,5 @@
 -- `plan::check` meets its contract. Assumes nothing.
-use mathlib.Core.Path.{sym, _∙_}
+use mathlib.Core.Path.{refl, sym, _∙_}
 use Rattle.plan.specs.Sound.{verdict}
 use borrow.Author.Needs.{needs}
 use Rattle.plan.proofs.check.Statement.{statement}
@@ -10,11 +10,11 @@ sound-requires c κs = search needs
 
 returns : tie.Need-returns
 unfolding verdict
-returns c = rw (sym (c .before .sound .ensures) ∙ c .if1 .taken)
+returns c = rw (sym (c .before .sound .ensures) ∙ c .if1 .taken) (refl, (refl, refl))
 
 returns-2 : tie.Need-returns-2
 unfolding verdict
-returns-2 c = rw (sym (c .before .sound .ensures) ∙ c .if1 .left)
+returns-2 c = rw (sym (c .before .sound .ensures) ∙ c .if1 .left) (refl, (refl, refl))
 
 pub check-spec : {M : Type 1} → statement M
 check-spec = tie.close (tie.spec sound-requires returns returns-2)

@@ -7,9 +7,10 @@ use borrow.Author.Needs.{needs}
 use borrow.Author.Count.{below-none, below-more}
 use borrow.Author.Tests.{eq-eqb, ne-eqb}
 use lib.Dec.{eqb}
+use Rattle.typeset.proofs.Bools.{passed, failed}
 use Rattle.plan.specs.Parts.{at}
 use Rattle.plan.specs.Find.{used}
-use Rattle.plan.proofs.Lookup.{lookup-at, lookup-nothing}
+use Rattle.plan.proofs.Lookup.{lookup-at, lookup-nothing, lookup-not-given}
 use Rattle.plan.proofs.find.Statement.{statement}
 use Rattle.plan.proofs.find.Tie as tie
 
@@ -18,6 +19,12 @@ Inv-loop address subscribers end i₀ i = (i ≤ end) × ((k : ℕ) → k < i �
 
 abbrev μ-loop : tie.MeasureT-loop
 μ-loop address subscribers end i₀ i = end - i
+
+given-requires : tie.Need-given-requires Inv-loop μ-loop
+given-requires c κs = search needs
+
+returns : tie.Need-returns Inv-loop μ-loop
+returns c = sym (lookup-not-given _ _ (failed (c .before .given .ensures) (c .if1 .taken)))
 
 used-requires : tie.Need-used-requires Inv-loop μ-loop
 used-requires c κs = search needs
@@ -31,11 +38,12 @@ mul-s c = search needs
 array-copy-out-s : tie.Need-array-copy-out-s Inv-loop μ-loop
 array-copy-out-s c = search needs
 
-returns : tie.Need-returns Inv-loop μ-loop
+returns-2 : tie.Need-returns-2 Inv-loop μ-loop
 unfolding used
-returns c =
-    sym (lookup-at _ _ _ (rw (← c .before .before .before .before .before .used .ensures) (c .before .before .before .loop-test .taken))
-    (c .before .before .before .before .loop .inv .1) (eq-eqb _ _ (c .if1 .taken)))
+returns-2 c =
+    sym (lookup-at _ _ (passed (c .before .before .before .before .before .before .before .before .given .ensures) (c .before .before .before .before .before .before .before .if1 .left)) _
+    (rw (← c .before .before .before .before .before .used .ensures) (c .before .before .before .loop-test .taken))
+    (c .before .before .before .before .loop .inv .1) (eq-eqb _ _ (c .if2 .taken)))
 
 add-i : tie.Need-add-i Inv-loop μ-loop
 add-i c = search needs
@@ -44,11 +52,11 @@ loop-less : tie.Need-loop-less Inv-loop μ-loop
 loop-less c = search needs
 
 loop-again : tie.Need-loop-again Inv-loop μ-loop
-loop-again c = (search needs, below-more _ _ (c .before .before .before .before .loop .inv .1) (ne-eqb _ _ (c .if1 .left)))
+loop-again c = (search needs, below-more _ _ (c .before .before .before .before .loop .inv .1) (ne-eqb _ _ (c .if2 .left)))
 
-returns-2 : tie.Need-returns-2 Inv-loop μ-loop
+returns-3 : tie.Need-returns-3 Inv-loop μ-loop
 unfolding used
-returns-2 c = sym (lookup-nothing _ _ (λ k h. c .before .loop .inv .1 k (omega arith)))
+returns-3 c = sym (lookup-nothing _ _ (λ k h. c .before .loop .inv .1 k (omega arith)))
 
 pub find-spec : {M : Type 1} → statement M
 find-spec =
@@ -56,12 +64,14 @@ find-spec =
     (tie.spec
     Inv-loop
     μ-loop
+    given-requires
+    returns
     used-requires
     loop-holds
     mul-s
     array-copy-out-s
-    returns
+    returns-2
     add-i
     loop-less
     loop-again
-    returns-2)
+    returns-3)

@@ -2,7 +2,7 @@
 use mathlib.Core.Path.{sym, _∙_}
 use native.Mathlib.Omega.{arith}
 use Rattle.plan.proofs.Lookup.{found-below}
-use Rattle.zone.specs.Answer.{heldFor, heldAt}
+use Rattle.zone.specs.Answer.{zoneFor, zoneAt}
 use borrow.Author.Needs.{needs}
 use Rattle.zone.proofs.zone_at.Statement.{statement}
 use Rattle.zone.proofs.zone_at.Tie as tie
@@ -20,7 +20,7 @@ empty-zone-requires : tie.Need-empty-zone-requires
 empty-zone-requires c κs = search needs
 
 returns : tie.Need-returns
-unfolding heldAt heldFor
+unfolding zoneAt zoneFor
 returns c = rw (sym (c .before .before .before .find .ensures) ∙ c .before .enum-told .given .1) (c .empty-zone .ensures)
 
 mul-s : tie.Need-mul-s
@@ -42,11 +42,11 @@ zone-of-requires-2 : tie.Need-zone-of-requires-2
 zone-of-requires-2 c κs = search needs
 
 returns-2 : tie.Need-returns-2
-unfolding heldAt heldFor
+unfolding zoneAt zoneFor
 returns-2 c = rw (sym (c .before .before .before .before .before .before .before .before .before .find .ensures) ∙ c .before .before .before .before .before .before .before .i .given .1, c .before .before .enum-told2 .given .1) (c .zone-of .ensures)
 
 returns-3 : tie.Need-returns-3
-unfolding heldAt heldFor
+unfolding zoneAt zoneFor
 returns-3 c = rw (sym (c .before .before .before .before .before .before .before .before .before .find .ensures) ∙ c .before .before .before .before .before .before .before .i .given .1, c .before .before .enum-told3 .given .1) (c .zone-of2 .ensures)
 
 pub zone-at-spec : {M : Type 1} → statement M

@@ -7,9 +7,10 @@ use lib.ListN.{replicate}
 use lib.Seq.{sets}
 use Rattle.typeset.specs.Sets.{size}
 use Rattle.typeset.proofs.Laws.{size-le, without-lt}
-use Rattle.zone.specs.Order.{next, zoneList, zoneOf}
+use Rattle.zone.specs.Order.{next, zoneList, held}
 use Rattle.zone.proofs.Rows.{next-lt}
-use Rattle.zone.proofs.Held.{zone-stored}
+use Rattle.zone.proofs.Held.{held-stored, zone-fits}
+use Rattle.zone.proofs.Members.{zone-length}
 use Rattle.zone.proofs.Zones.{zone-empty, store-step, size-step}
 use Rattle.zone.proofs.zone_of.Statement.{statement}
 use Rattle.zone.proofs.zone_of.Tie as tie
@@ -60,10 +61,15 @@ cast-t13 : tie.Need-cast-t13 Inv-loop μ-loop
 cast-t13 c = omega (arith, size-le (c .before .before .before .args .set))
 
 returns : tie.Need-returns Inv-loop μ-loop
-unfolding zoneOf
+unfolding held
 returns c =
     let done = rw (c .before .loop-test .left, zone-empty) at (c .before .before .loop .inv .2) in
-    λ i. record { types = (done ∙ zone-stored _ _) i; len = c .size .ensures i }
+    let rows = c .before .before .before .args .rows in
+    let set = c .before .before .before .args .set in
+    λ i. record {
+      types = (done ∙ held-stored (zoneList rows set) (zone-fits rows set)) i;
+      len = (c .size .ensures ∙ sym (zone-length rows set)) i;
+    }
 
 pub zone-of-spec : {M : Type 1} → statement M
 zone-of-spec =

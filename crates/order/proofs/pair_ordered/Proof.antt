@@ -1,0 +1,56 @@
+-- `order::pair_ordered` meets its contract. Assumes nothing.
+use Rattle.typeset.proofs.Bools.{passed, failed}
+use mathlib.Core.Path.{sym, _∙_}
+use Rattle.order.specs.Rules.{precedes}
+use Rattle.order.specs.Steps.{pairOrdered}
+use borrow.Author.Needs.{needs}
+use Rattle.order.proofs.pair_ordered.Statement.{statement}
+use Rattle.order.proofs.pair_ordered.Tie as tie
+
+two-of-requires : tie.Need-two-of-requires
+two-of-requires c κs = search needs
+
+returns : tie.Need-returns
+unfolding pairOrdered
+returns c = rw (failed (c .before .two-of .ensures) (c .if1 .taken))
+
+mul-has : tie.Need-mul-has
+mul-has c = search needs
+
+array-read-has : tie.Need-array-read-has
+array-read-has c = search needs
+
+has-requires : tie.Need-has-requires
+has-requires c κs = search needs
+
+returns-2 : tie.Need-returns-2
+unfolding pairOrdered precedes
+returns-2 c = rw (passed (c .before .before .before .two-of .ensures) (c .before .before .if1 .left), sym (c .before .has .ensures) ∙ c .if2 .taken)
+
+mul-has-2 : tie.Need-mul-has-2
+mul-has-2 c = search needs
+
+array-read-has-2 : tie.Need-array-read-has-2
+array-read-has-2 c = search needs
+
+has-requires-2 : tie.Need-has-requires-2
+has-requires-2 c κs = search needs
+
+returns-3 : tie.Need-returns-3
+unfolding pairOrdered precedes
+returns-3 c = rw (passed (c .before .before .before .before .two-of .ensures) (c .before .before .before .if1 .left), sym (c .before .before .has .ensures) ∙ c .before .if2 .left) (c .has2 .ensures)
+
+pub pair-ordered-spec : {M : Type 1} → statement M
+pair-ordered-spec =
+    tie.close
+    (tie.spec
+    two-of-requires
+    returns
+    mul-has
+    array-read-has
+    has-requires
+    returns-2
+    mul-has-2
+    array-read-has-2
+    has-requires-2
+    returns-3)
