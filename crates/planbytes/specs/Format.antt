@@ -16,16 +16,22 @@ unfoldable pub versionBody : List ℕ
 versionBody = high 1 1
 
 -- F3: tag 2, the five sets
+abbrev pub setsOf : Types → List ℕ
+setsOf t = t .existing ∷ t .bound ∷ t .reversible ∷ t .«source_choice» ∷ t .«target_choice» ∷ []
+
 unfoldable pub typesBody : Types → List ℕ
-typesBody t = row 4 (t .existing ∷ t .bound ∷ t .reversible ∷ t .«source_choice» ∷ t .«target_choice» ∷ [])
+typesBody t = row 4 (setsOf t)
 
 -- F4: tags 3 and 4, the rows of an order
 unfoldable pub orderBody : List ℕ → List ℕ
 orderBody rows = row 4 rows
 
 -- F5: tag 5, a subscriber: kind, address, source set, target set, box numbers
+abbrev pub fixedOf : Subscriber → List ℕ
+fixedOf s = s .address ∷ s .source ∷ s .target ∷ []
+
 unfoldable pub subscriberBody : Subscriber → List ℕ
-subscriberBody s = high 1 (s .kind) ++ row 4 (s .address ∷ s .source ∷ s .target ∷ []) ++ row 2 (take (s .count) (s .boxes))
+subscriberBody s = high 1 (s .kind) ++ row 4 (fixedOf s) ++ row 2 (take (s .count) (s .boxes))
 
 -- a field for each subscriber
 unfoldable pub subscriberFields : List Subscriber → List ℕ

@@ -1,5 +1,5 @@
 -- Numbers as bytes, high byte first. Assumes nothing.
-use Prim.Native.Nat.{ℕ, zero, suc, _+_, _*_, _/_, _%_}
+use Prim.Native.Nat.{ℕ, zero, suc, _+_, _*_, _/_, _%_, _<_}
 use mathlib.Core.List.{List, [], _∷_, _++_}
 use lib.ListN.{take, drop}
 
@@ -25,3 +25,8 @@ row w (n ∷ ns) = high w n ++ row w ns
 unfoldable pub numbers : ℕ → ℕ → List ℕ → List ℕ
 numbers w zero bs = []
 numbers w (suc k) bs = number (take w bs) ∷ numbers w k (drop w bs)
+
+-- each number of a list is below n
+unfoldable pub Below : ℕ → List ℕ → Type 0
+Below n [] = Unit
+Below n (x ∷ xs) = (x < n) × Below n xs
