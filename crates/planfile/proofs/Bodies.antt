@@ -80,7 +80,7 @@ fixed-in : (k : ℕ) (body : List ℕ) → fixedOf (subscriberWith k body) ≡ n
 unfolding subscriberWith numbers
 fixed-in k body = rw (drop-drop 4 1 body, drop-drop 4 5 body)
 
-zeros : (l : List ℕ) → ((i : ℕ) → i < length l → getD l i 0 ≡ 0) → l ≡ replicate (length l) 0
+pub zeros : (l : List ℕ) → ((i : ℕ) → i < length l → getD l i 0 ≡ 0) → l ≡ replicate (length l) 0
 zeros [] f = refl
 zeros (x ∷ l) f = λ j. f 0 (omega arith) j ∷ zeros l (λ i h. f (suc i) (omega arith)) j
 

@@ -1,2 +1,4 @@
 pub mod Bodies
 pub mod Passing
+pub mod States
+pub mod There
