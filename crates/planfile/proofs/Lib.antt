@@ -2,3 +2,5 @@ pub mod Bodies
 pub mod Passing
 pub mod States
 pub mod There
+pub mod Back
+pub mod Theorems

@@ -174,8 +174,10 @@ module _ (p : Plan) (𝓣 : Typed p) (𝓢 : sound p ≡ true) where
       let fuel : 257 - p .count ≡ suc (256 - p .count) = omega (arith, few p 𝓢) in
       let place : 289 + length (subscriberFields (take (p .count) (p .subscribers))) + 3 ≡ length (bytesOf p) =
       sym (file-length p (𝓣 .source-rows) (𝓣 .target-rows) ∙ omega arith) in
-      rw (append-assoc (headFields (p .types) (p .«source_order») (p .«target_order») ++ subscriberFields (take (p .count) (p .subscribers))) endField rest,
-      append-assoc (headFields (p .types) (p .«source_order») (p .«target_order»)) (subscriberFields (take (p .count) (p .subscribers))) (endField ++ rest))
+      rw (
+        append-assoc (headFields (p .types) (p .«source_order») (p .«target_order») ++ subscriberFields (take (p .count) (p .subscribers))) endField rest,
+        append-assoc (headFields (p .types) (p .«source_order») (p .«target_order»)) (subscriberFields (take (p .count) (p .subscribers))) (endField ++ rest),
+      )
       (read-used (p .count) (endField ++ rest) (omega arith) ∙ rw (fuel, state-used p 𝓣 𝓢)
       (read-end-field (256 - p .count) p (289 + length (subscriberFields (take (p .count) (p .subscribers)))) rest ∙ ap (λ (n : ℕ). ended p n rest) place))
 

@@ -181,8 +181,8 @@ fn fields_size(subscribers: [Subscriber; 256], count: usize) -> usize
     ensures { λ r. ⌜ (r ≡ length (subscriberFields (take count subscribers))) × (r ≤ 6144) ⌝ }
 {
     let mut size = 0usize;
-    for i in 0usize..count {
-        let s = subscribers[i];
+    for k in 0usize..count {
+        let s = subscribers[k];
         size = size + field_size(s);
     }
     size

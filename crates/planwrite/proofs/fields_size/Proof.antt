@@ -10,10 +10,10 @@ use Rattle.planwrite.proofs.fields_size.Statement.{statement}
 use Rattle.planwrite.proofs.fields_size.Tie as tie
 
 abbrev Inv-loop : tie.InvT-loop
-Inv-loop count subscribers size₀ i₀ size i = (i ≤ count) × (size + length (subscriberFields (drop i (take count subscribers))) ≡ length (subscriberFields (take count subscribers))) × (size ≤ 24 * i)
+Inv-loop count subscribers size₀ k₀ size k = (k ≤ count) × (size + length (subscriberFields (drop k (take count subscribers))) ≡ length (subscriberFields (take count subscribers))) × (size ≤ 24 * k)
 
 abbrev μ-loop : tie.MeasureT-loop
-μ-loop count subscribers size₀ i₀ size i = count - i
+μ-loop count subscribers size₀ k₀ size k = count - k
 
 loop-holds : tie.Need-loop-holds Inv-loop μ-loop
 loop-holds c = (search needs, omega arith, search needs)
@@ -30,8 +30,8 @@ field-size-requires c κs = search needs
 add-size : tie.Need-add-size Inv-loop μ-loop
 add-size c = omega arith
 
-add-i : tie.Need-add-i Inv-loop μ-loop
-add-i c = search needs
+add-k : tie.Need-add-k Inv-loop μ-loop
+add-k c = search needs
 
 loop-less : tie.Need-loop-less Inv-loop μ-loop
 loop-less c = search needs
@@ -39,13 +39,13 @@ loop-less c = search needs
 loop-again : tie.Need-loop-again Inv-loop μ-loop
 loop-again c =
     let long : length (c .before .before .before .before .args .t1) ≡ 256 = search needs in
-    let some : c .before .before .before .loop .i < c .before .before .before .before .args .count = search needs in
-    let next = fields-length (c .before .before .before .before .args .t1) (c .before .before .before .before .args .count) (c .before .before .before .loop .i) long (c .before .before .before .before .pre) some in
+    let some : c .before .before .before .loop .k < c .before .before .before .before .args .count = search needs in
+    let next = fields-length (c .before .before .before .before .args .t1) (c .before .before .before .before .args .count) (c .before .before .before .loop .k) long (c .before .before .before .before .pre) some in
     (search needs, omega arith, omega arith)
 
 returns : tie.Need-returns Inv-loop μ-loop
 returns c =
-    let end : c .before .loop .i ≡ c .before .before .args .count = omega arith in
+    let end : c .before .loop .k ≡ c .before .before .args .count = omega arith in
     let none = ap length (fields-done (c .before .before .args .t1) (c .before .before .args .count)) in
     let all = rw end at (c .before .loop .inv .1) in
     (omega arith, omega arith)
@@ -61,7 +61,7 @@ fields-size-spec =
     array-copy-out-s
     field-size-requires
     add-size
-    add-i
+    add-k
     loop-less
     loop-again
     returns)
