@@ -4,3 +4,4 @@ pub mod States
 pub mod There
 pub mod Back
 pub mod Theorems
+pub mod Complete
