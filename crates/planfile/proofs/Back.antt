@@ -62,7 +62,7 @@ pub data Reached : ℕ → Plan → List ℕ → Type 0 where
 move : {stage : ℕ} {q : Plan} {pre pre′ : List ℕ} → pre ≡ pre′ → Reached stage q pre → Reached stage q pre′
 move e x = rw e at x
 
-none-typed : AllTyped []
+pub none-typed : AllTyped []
 unfolding AllTyped
 none-typed = tt
 
@@ -198,7 +198,7 @@ module _ (at : ℕ) (left : List ℕ) (p : Below 256 left) where
 
 -- ---- what a refusal before the rules says of its place
 
-verdict-cases : (v : Verdict) → (v ≡ Sound) ⊎ ((r : Refusal) × (v ≡ Refused r))
+pub verdict-cases : (v : Verdict) → (v ≡ Sound) ⊎ ((r : Refusal) × (v ≡ Refused r))
 verdict-cases Sound = inl refl
 verdict-cases (Refused r) = inr (r, refl)
 
@@ -236,7 +236,7 @@ end-size : length endField ≡ 3
 unfolding endField
 end-size = field-length 127 []
 
-read-none : (stage : ℕ) (q : Plan) (at : ℕ) (left : List ℕ) → readFrom zero stage q at left ≡ refused (TooManySubscribers at)
+pub read-none : (stage : ℕ) (q : Plan) (at : ℕ) (left : List ℕ) → readFrom zero stage q at left ≡ refused (TooManySubscribers at)
 unfolding readFrom
 read-none stage q at left = refl
 
@@ -244,11 +244,11 @@ abbrev refusedOnly : Verdict → Bool
 refusedOnly Sound = false
 refusedOnly (Refused r) = true
 
-ended-none : (q : Plan) (at : ℕ) (left : List ℕ) → length left ≡ 0 → ended q at left ≡ accepted q
+pub ended-none : (q : Plan) (at : ℕ) (left : List ℕ) → length left ≡ 0 → ended q at left ≡ accepted q
 unfolding ended
 ended-none q at left e = rw e
 
-ended-some : (q : Plan) (at : ℕ) (left : List ℕ) → ¬ (length left ≡ 0) → ended q at left ≡ refused (WrongEnd at)
+pub ended-some : (q : Plan) (at : ℕ) (left : List ℕ) → ¬ (length left ≡ 0) → ended q at left ≡ refused (WrongEnd at)
 unfolding ended
 ended-some q at left e = rw (ne-eqb (length left) 0 e)
 
@@ -336,7 +336,7 @@ pub record File (bs : List ℕ) (q : Plan) : Type 0 where
 same-plan : (a b : Plan) → accepted a ≡ accepted b → a ≡ b
 same-plan a b e = ap (λ (x : Reading). x .plan) e
 
-never : (r : Refusal) (b : Plan) → refused r ≡ accepted b → ⊥
+pub never : (r : Refusal) (b : Plan) → refused r ≡ accepted b → ⊥
 never r b e = let z : refusedOnly (refused r .answer) ≡ refusedOnly (accepted b .answer) = ap (λ (x : Reading). refusedOnly (x .answer)) e in true≢false z
 
 file-of : (bs : List ℕ) (x : Reading) (q : Plan) → Outcome bs x → x ≡ accepted q → File bs q

@@ -5,3 +5,4 @@ pub mod There
 pub mod Back
 pub mod Theorems
 pub mod Complete
+pub mod Place
