@@ -7,7 +7,7 @@ use native.Mathlib.Numerals.{add-one}
 use native.Mathlib.Omega.{arith}
 use lib.ListN.{length, getD, take, drop, set, replicate, length-replicate, length-drop}
 use lib.Seq.{drop-cons, drop-drop, sets, sets-eq}
-use Rattle.planbytes.specs.Numbers.{numberAfter, number, row, numbers}
+use Rattle.planbytes.specs.Numbers.{numberAfter, number, numbers}
 
 -- ---- the bytes at a place
 

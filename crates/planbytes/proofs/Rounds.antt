@@ -1,14 +1,13 @@
 -- Numbers to bytes and back, over every width, and rows of numbers. Assumes nothing.
 use mathlib.Core.Path.{_≡_, refl, sym, ap, _∙_}
-use mathlib.Core.List.{List, [], _∷_, _++_, append-assoc, append-nil}
-use Prim.Native.Nat.{ℕ, zero, suc, _+_, _-_, _*_, _/_, _%_, _^_, _≤_, _<_, min}
+use mathlib.Core.List.{List, [], _∷_, _++_, append-assoc}
+use Prim.Native.Nat.{ℕ, zero, suc, _+_, _-_, _*_, _/_, _%_, _^_, _≤_, _<_}
 use native.Mathlib.Nat.{pow-suc, div-lt-iff-lt-mul, not-suc-le-zero}
-use native.Mathlib.Numerals.{add-one}
 use native.Mathlib.Omega.{arith}
-use lib.ListN.{length, getD, take, drop, length-append, length-take, length-drop, take-append-drop}
+use lib.ListN.{length, getD, take, drop, length-drop}
 use lib.Seq.{take-suc, take-at, drop-at, take-all, take-add, length-take-le}
 use Rattle.planbytes.specs.Numbers.{high, numberAfter, number, row, numbers, Below}
-use Rattle.planbytes.proofs.Lengths.{high-length, row-length}
+use Rattle.planbytes.proofs.Lengths.{high-length}
 
 -- ---- each below n
 

@@ -4,12 +4,11 @@ use mathlib.Core.Path.{_≡_, refl, sym, ap, _∙_}
 use mathlib.Core.Logic.{_⊎_, inl, inr, ⊎-elim}
 use mathlib.Core.Bool.{Bool, true, false, not, _&&_, cond, true≢false}
 use mathlib.Core.List.{List, [], _∷_, _++_, append-assoc, append-nil}
-use Prim.Native.Nat.{ℕ, zero, suc, _+_, _-_, _*_, _/_, _%_, _^_, _≤_, _<_, min}
+use Prim.Native.Nat.{ℕ, zero, suc, _+_, _-_, _*_, _/_, _^_, _≤_, min}
 use native.Mathlib.Omega.{arith}
 use lib.Dec.{eqb, ltb, leb}
-use lib.ListN.{length, take, drop, set, replicate, length-append, length-replicate}
-use lib.Seq.{append-snoc}
-use borrow.Author.Tests.{eqb-true, eqb-false, le-leb, eq-eqb, ne-eqb}
+use lib.ListN.{length, replicate, length-append}
+use borrow.Author.Tests.{eqb-true, eqb-false, le-leb, ne-eqb}
 use Rattle.typeset.specs.Sets.{every}
 use Rattle.typeset.proofs.Bools.{yes-or-no, and-make}
 use Rattle.typeset.proofs.Below.{every-none, every-more}
@@ -22,16 +21,15 @@ use Rattle.plan.specs.declared.Subscriber.{Subscriber}
 use Rattle.plan.specs.declared.Plan.{Plan}
 use Rattle.plan.specs.declared.Verdict.{Verdict}
 use Rattle.plan.specs.declared.Verdict.the-variants.{Sound, Refused}
-use Rattle.plan.specs.Rules.{restBlank}
 use Rattle.plan.specs.Sound.{typesSound, sourceSound, targetSound, subscriberSound, sound}
 use Rattle.planbytes.specs.Numbers.{high, number, Below}
 use Rattle.planbytes.specs.Format.{field, versionBody, setsOf, typesBody, orderBody, subscriberBody, subscriberFields, headFields, endField, bytesOf}
 use Rattle.planbytes.proofs.Lengths.{field-length}
 use Rattle.planbytes.proofs.Rounds.{high-number, below-drop}
 use Rattle.planread.specs.declared.Reading.{Reading}
-use Rattle.planread.specs.Reading.{nobody, planOf, blankPlan, tagOf, lengthOf, bodyOf, after, typesIn, orderIn, subscriberIn, allowed, everLong, header, entered, kept, thenRule, verdictAt, refused, accepted, ended, readFrom, readOf}
+use Rattle.planread.specs.Reading.{nobody, planOf, blankPlan, tagOf, lengthOf, bodyOf, after, typesIn, orderIn, subscriberIn, allowed, everLong, header, entered, kept, refused, accepted, ended, readFrom, readOf}
 use Rattle.planread.proofs.Places.{every-alike}
-use Rattle.planread.proofs.Steps.{Passed, Next, header-passed, read-refused, read-broken, read-on, read-end, version-next, types-next, source-next, target-next, end-next, subscriber-next}
+use Rattle.planread.proofs.Steps.{header-passed, read-refused, read-broken, read-on, read-end, version-next, types-next, source-next, target-next, end-next, subscriber-next}
 use Rattle.planfile.specs.Typed.{TypedSubscriber, AllTyped, Typed}
 use Rattle.planfile.proofs.Bodies.{types-back, types-fit, order-back, order-fits, order-rows, subscriber-back, subscriber-fits}
 use Rattle.planfile.proofs.Passing.{body-size, body-below, field-back}
@@ -67,11 +65,6 @@ unfolding AllTyped
 none-typed = tt
 
 -- ---- a field that is passed
-
-then-sound : (v : Verdict) (at : ℕ) (b : Bool) → thenRule v at b ≡ Sound → (v ≡ Sound) × (b ≡ true)
-then-sound Sound at true e = (refl, refl)
-then-sound Sound at false e = let z : _≡_ {A = ℕ} 0 1 = cc in let no : ⊥ = omega arith in absurd no
-then-sound (Refused r) at b e = let z : _≡_ {A = ℕ} 0 1 = cc in let no : ⊥ = omega arith in absurd no
 
 fields-last : (xs : List Subscriber) (s : Subscriber) → subscriberFields (xs ++ (s ∷ [])) ≡ subscriberFields xs ++ field 5 (subscriberBody s)
 unfolding subscriberFields

@@ -1,15 +1,14 @@
 -- What a body says and the body of what it says: each undoes the other. Assumes nothing.
 use mathlib.Core.Path.{_≡_, refl, sym, ap, _∙_}
-use mathlib.Core.Bool.{Bool, true, false}
+use mathlib.Core.Bool.{true}
 use mathlib.Core.List.{List, [], _∷_, _++_, append-assoc, append-nil}
-use Prim.Native.Nat.{ℕ, zero, suc, _+_, _-_, _*_, _/_, _%_, _^_, _≤_, _<_, min}
-use native.Mathlib.Nat.{not-suc-le-zero}
+use Prim.Native.Nat.{ℕ, zero, suc, _+_, _-_, _*_, _/_, _^_, _≤_, _<_}
 use native.Mathlib.Omega.{arith}
 use lib.Dec.{eqb, leb}
-use lib.ListN.{length, getD, take, drop, replicate, length-append, length-take, length-drop, length-replicate, take-append-drop}
+use lib.ListN.{length, getD, take, drop, replicate, length-append, length-drop, length-replicate, take-append-drop}
 use lib.Seq.{take-at, drop-at, take-all, take-add, drop-drop, getD-drop, length-take-le}
 use borrow.Author.Tests.{eqb-true, le-leb}
-use Rattle.typeset.specs.Sets.{every, implies}
+use Rattle.typeset.specs.Sets.{implies}
 use Rattle.typeset.proofs.Bools.{imp-at}
 use Rattle.typeset.proofs.Below.{every-at}
 use Rattle.plan.specs.declared.Types.{Types}

@@ -1,13 +1,13 @@
 -- The place of a refusal: up to it the bytes are the first fields, whole, of a sound plan's file, and up to no later place are they. Assumes nothing.
 use mathlib.Core.Path.{_≡_, refl, sym, ap, _∙_}
-use mathlib.Core.Logic.{_⊎_, inl, inr, ⊎-elim}
-use mathlib.Core.Bool.{Bool, true, false, not, _&&_, cond}
+use mathlib.Core.Logic.{_⊎_, ⊎-elim}
+use mathlib.Core.Bool.{true, false}
 use mathlib.Core.List.{List, [], _∷_, _++_, map, append-assoc, append-nil}
 use Prim.Native.Nat.{ℕ, zero, suc, _+_, _-_, _^_, _≤_, _<_, min}
 use native.Mathlib.Omega.{arith}
-use lib.Dec.{eqb, ltb, leb}
-use lib.ListN.{length, take, drop, replicate, length-append, length-map}
-use lib.Seq.{take-at, take-all, take-append-le, take-take, length-take-le}
+use lib.Dec.{eqb, ltb}
+use lib.ListN.{length, take, replicate, length-append, length-map}
+use lib.Seq.{take-all, take-append-le, take-take}
 use borrow.Author.Tests.{eqb-true, eqb-false}
 use Rattle.typeset.specs.Sets.{has, every, within, meet, setOf}
 use Rattle.typeset.proofs.Bools.{yes-or-no}
@@ -15,27 +15,25 @@ use Rattle.typeset.proofs.Below.{every-none}
 use Rattle.typeset.proofs.Laws.{split}
 use Rattle.refusal.specs.declared.Refusal.{Refusal}
 use Rattle.refusal.specs.declared.Refusal.the-variants.{WrongEnd, RuleBroken, TooManySubscribers}
-use Rattle.refusal.specs.declared.Place.{Place}
-use Rattle.refusal.specs.declared.Place.the-variants.{At, Nowhere}
+use Rattle.refusal.specs.declared.Place.the-variants.{At}
 use Rattle.refusal.specs.Numbers.{placeOf}
 use Rattle.plan.specs.declared.Types.{Types}
 use Rattle.plan.specs.declared.Subscriber.{Subscriber}
 use Rattle.plan.specs.declared.Plan.{Plan}
-use Rattle.plan.specs.declared.Verdict.{Verdict}
 use Rattle.plan.specs.declared.Verdict.the-variants.{Sound, Refused}
 use Rattle.plan.specs.Rules.{typesExist, reversibleInBoth, boundInBoth}
-use Rattle.plan.specs.Sound.{typesSound, sourceSound, targetSound, subscriberSound, sound}
-use Rattle.plan.proofs.Laws.{few, types-kept, source-kept, target-kept}
+use Rattle.plan.specs.Sound.{typesSound, sourceSound, subscriberSound, sound}
+use Rattle.plan.proofs.Laws.{types-kept, source-kept}
 use Rattle.planbytes.specs.Numbers.{Below}
 use Rattle.planbytes.specs.Format.{field, versionBody, setsOf, typesBody, orderBody, subscriberBody, subscriberFields, headFields, endField, bytesOf}
 use Rattle.planbytes.proofs.Lengths.{high-length, field-length, types-length, order-length, head-length}
 use Rattle.planread.specs.declared.Reading.{Reading}
-use Rattle.planread.specs.Reading.{noTypes, planOf, blankPlan, tagOf, lengthOf, bodyOf, after, header, entered, kept, refused, accepted, ended, readFrom, readOf}
+use Rattle.planread.specs.Reading.{noTypes, blankPlan, tagOf, lengthOf, bodyOf, after, header, entered, kept, refused, ended, readFrom, readOf}
 use Rattle.planread.proofs.Steps.{read-refused, read-broken, read-on, read-end}
-use Rattle.planfile.specs.Typed.{AllTyped, Typed}
+use Rattle.planfile.specs.Typed.{Typed}
 use Rattle.planfile.specs.Beginning.{fieldsOf, joined, Follows}
 use Rattle.planfile.proofs.States.{filled, state, filled-take, used-length}
-use Rattle.planfile.proofs.There.{read-version, read-types, read-source, read-target, read-used, read-file}
+use Rattle.planfile.proofs.There.{read-version, read-types, read-source, read-used, read-file}
 use Rattle.planfile.proofs.Back.{HeadRead, Reached, atStart, atTypes, atSource, atTarget, atSubscribers, none-typed, state-sound, state-typed, verdict-cases, header-place, ended-none, ended-some, read-none, Outcome, whole, stopped, trailing, reads, never}
 use Rattle.planfile.proofs.Complete.{rows-long, rows-fit, sourceFor, targetFor, source-for, target-for}
 

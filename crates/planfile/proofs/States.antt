@@ -1,27 +1,26 @@
 -- The plan as far as it is read: the subscribers so far, and nobody in the places past them. Assumes nothing.
 use mathlib.Core.Path.{_≡_, refl, sym, ap, _∙_}
-use mathlib.Core.Logic.{_⊎_, inl, inr, ⊎-elim}
-use mathlib.Core.Bool.{Bool, true, false, _&&_, cond}
-use mathlib.Core.List.{List, [], _∷_, _++_, append-assoc, append-nil}
-use Prim.Native.Nat.{ℕ, zero, suc, _+_, _-_, _*_, _^_, _≤_, _<_}
+use mathlib.Core.Logic.{_⊎_, ⊎-elim}
+use mathlib.Core.Bool.{true, false, _&&_}
+use mathlib.Core.List.{List, [], _∷_, _++_}
+use Prim.Native.Nat.{ℕ, zero, suc, _+_, _-_, _≤_, _<_}
 use native.Mathlib.Nat.{not-suc-le-zero}
 use native.Mathlib.Omega.{arith}
 use lib.Dec.{eqb, leb}
-use lib.ListN.{length, getD, take, drop, set, replicate, length-append, length-take, length-drop, length-replicate, take-append-drop, List·getD-append, getD-replicate}
+use lib.ListN.{length, take, drop, set, replicate, length-append, length-drop, length-replicate, take-append-drop, List·getD-append, getD-replicate}
 use lib.Seq.{take-append-seam, set-append-seam, append-snoc, getD-drop, getD-append-add, length-take-le}
 use borrow.Author.Tests.{eqb-true, eqb-false, leb-true, le-leb}
 use Rattle.typeset.specs.Sets.{every, implies}
-use Rattle.typeset.proofs.Bools.{yes-or-no, clash, and-left, and-right, imp-at, imp-of}
+use Rattle.typeset.proofs.Bools.{yes-or-no, and-left, and-right, imp-at, imp-of}
 use Rattle.typeset.proofs.Below.{every-at, every-of}
 use Rattle.plan.specs.declared.Types.{Types}
 use Rattle.plan.specs.declared.Subscriber.{Subscriber}
 use Rattle.plan.specs.declared.Plan.{Plan}
 use Rattle.plan.specs.Parts.{at, box}
 use Rattle.plan.specs.Rules.{kindKnown, countFits, numbersGiven, numbersDiffer, boxesBlank, blank, restBlank}
-use Rattle.plan.specs.Sound.{boxesSound, ownSound, subscriberSound, sound}
+use Rattle.plan.specs.Sound.{boxesSound, ownSound, sound}
 use Rattle.plan.proofs.Subscribers.{own-kind, own-count, own-boxes}
 use Rattle.plan.proofs.Laws.{few, rest-kept}
-use Rattle.planbytes.specs.Numbers.{Below}
 use Rattle.planread.specs.Reading.{nobody, planOf}
 use Rattle.planread.proofs.Places.{Alike}
 use Rattle.planfile.specs.Typed.{TypedSubscriber, AllTyped, Typed}
@@ -32,10 +31,6 @@ filled xs = xs ++ replicate (256 - length xs) nobody
 
 abbrev pub state : Types → List ℕ → List ℕ → List Subscriber → Plan
 state t source target xs = planOf t source target (filled xs) (length xs)
-
-pub filled-none : filled [] ≡ replicate 256 nobody
-unfolding filled
-filled-none = refl
 
 pub filled-length : (xs : List Subscriber) → length xs ≤ 256 → length (filled xs) ≡ 256
 unfolding filled

@@ -1,9 +1,8 @@
 -- Both round trips, and which bytes are accepted; of the definitions, and of the functions `planread::read` and `planwrite::write` by their contracts. Assumes nothing.
-use mathlib.Core.Path.{_≡_, refl, sym, ap, _∙_}
+use mathlib.Core.Path.{_≡_, sym, ap, _∙_}
 use mathlib.Core.Bool.{true}
-use mathlib.Core.List.{List, _++_}
+use mathlib.Core.List.{List}
 use Prim.Native.Nat.{ℕ, _≤_}
-use lib.Dec.{leb}
 use lib.ListN.{length, take, drop}
 use lib.Seq.{take-append-seam}
 use borrow.Author.Tests.{le-leb}
@@ -16,7 +15,7 @@ use Rattle.planwrite.specs.declared.Written.the-variants.{Bytes}
 use Rattle.planwrite.specs.Writing.{written, roomAfter}
 use Rattle.planfile.specs.Typed.{Typed}
 use Rattle.planfile.proofs.There.{there-and-back}
-use Rattle.planfile.proofs.Back.{File, back-and-there}
+use Rattle.planfile.proofs.Back.{back-and-there}
 
 -- F13: reading the file of a sound plan gives that plan
 pub read-written : (p : Plan) → Typed p → sound p ≡ true → readOf (bytesOf p) ≡ accepted p

@@ -1,11 +1,10 @@
 -- Reading the fields of a sound plan's file, with anything after them: field by field, and the whole (F13). Assumes nothing.
 use mathlib.Core.Path.{_≡_, refl, sym, ap, _∙_}
-use mathlib.Core.Bool.{Bool, true, false, _&&_}
+use mathlib.Core.Bool.{true, _&&_}
 use mathlib.Core.List.{List, [], _∷_, _++_, append-assoc, append-nil}
-use Prim.Native.Nat.{ℕ, zero, suc, _+_, _-_, _*_, _%_, _^_, _≤_, _<_}
+use Prim.Native.Nat.{ℕ, suc, _+_, _-_, _*_, _%_, _^_, _≤_, _<_}
 use native.Mathlib.Omega.{arith}
-use lib.Dec.{eqb, leb}
-use lib.ListN.{length, getD, take, replicate, length-append}
+use lib.ListN.{length, take, replicate, length-append}
 use lib.Seq.{append-snoc, length-take-le, getD-take}
 use borrow.Author.Tests.{eqb-false, lt-leb, le-leb, eq-eqb}
 use Rattle.typeset.specs.Sets.{every}
@@ -17,19 +16,17 @@ use Rattle.plan.specs.declared.Plan.{Plan}
 use Rattle.plan.specs.Parts.{at}
 use Rattle.plan.specs.Rules.{ascends}
 use Rattle.plan.specs.Sound.{typesSound, sourceSound, targetSound, ownSound, numbersApart, subscriberSound, sound}
-use Rattle.plan.proofs.Subscribers.{own-at}
 use Rattle.plan.proofs.Laws.{few, types-kept, source-kept, target-kept, subscribers-kept}
 use Rattle.planbytes.specs.Numbers.{high, numberAfter, number, Below}
 use Rattle.planbytes.specs.Format.{field, versionBody, setsOf, typesBody, orderBody, subscriberBody, subscriberFields, headFields, endField, bytesOf}
-use Rattle.planbytes.proofs.Lengths.{high-length, types-length, order-length, field-length}
-use Rattle.planbytes.proofs.Rounds.{number-high}
-use Rattle.planread.specs.Reading.{nobody, planOf, blankPlan, noTypes, typesIn, orderIn, subscriberIn, allowed, everLong, entered, kept, accepted, ended, readFrom, readOf}
+use Rattle.planbytes.proofs.Lengths.{types-length, order-length, field-length}
+use Rattle.planread.specs.Reading.{nobody, planOf, blankPlan, allowed, everLong, entered, kept, accepted, ended, readFrom, readOf}
 use Rattle.planread.proofs.Places.{sound-alike, every-alike}
 use Rattle.planwrite.proofs.Files.{file-length}
 use Rattle.planfile.specs.Typed.{TypedSubscriber, AllTyped, Typed}
 use Rattle.planfile.proofs.Bodies.{types-there, order-there, body-length, subscriber-there}
 use Rattle.planfile.proofs.Passing.{pass-on, pass-end}
-use Rattle.planfile.proofs.States.{filled, state, filled-set, filled-at, filled-alike, filled-last, typed-take, used-length, filled-used, state-used, count-small, boxes-blank}
+use Rattle.planfile.proofs.States.{filled, state, filled-set, filled-at, filled-alike, filled-last, typed-take, state-used, count-small, boxes-blank}
 
 -- ---- the four fixed fields, with anything after them
 module _ (rest : List ℕ) where
@@ -147,9 +144,6 @@ module _ (p : Plan) (𝓣 : Typed p) (𝓢 : sound p ≡ true) where
       ∙ read-types (field 3 (orderBody (p .«source_order»)) ++ (field 4 (orderBody (p .«target_order»)) ++ rest)) (p .types) (𝓣 .sets-fit) (types-kept p 𝓢)
       ∙ read-source (field 4 (orderBody (p .«target_order»)) ++ rest) (p .types) (replicate 32 0) (p .«source_order») (𝓣 .source-rows) (𝓣 .source-fits) (source-kept p 𝓢)
       ∙ read-target rest (p .types) (p .«source_order») (p .«target_order») (𝓣 .target-rows) (𝓣 .target-fits) (target-kept p 𝓢))
-
-  all-kept : every (length (take (p .count) (p .subscribers))) (subscriberSound (p .types) (filled (take (p .count) (p .subscribers)))) ≡ true
-  all-kept = rw (used-length p 𝓣 𝓢, filled-used p 𝓣 𝓢) (subscribers-kept p 𝓢)
 
   -- what is left after k subscribers more, of those in use
   pub read-used : (k : ℕ) (rest : List ℕ) → k ≤ p .count

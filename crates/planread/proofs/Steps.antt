@@ -16,7 +16,6 @@ use Rattle.refusal.specs.declared.Refusal.the-variants.{WrongEnd, WrongTag, Wro
 use Rattle.plan.specs.declared.Plan.{Plan}
 use Rattle.plan.specs.declared.Verdict.{Verdict}
 use Rattle.plan.specs.declared.Verdict.the-variants.{Sound, Refused}
-use Rattle.planread.specs.declared.Reading.{Reading}
 use Rattle.planbytes.specs.Numbers.{number, numbers}
 use Rattle.planread.specs.Reading.{tagOf, lengthOf, bodyOf, after, typesIn, orderIn, subscriberWith, allowed, everLong, entered, kept, header, verdictAt, refused, ended, readFrom}
 use Rattle.planbytes.proofs.Numbers.{numbers-length}
