@@ -1,19 +1,25 @@
 -- Both round trips, and which bytes are accepted; of the definitions, and of the functions `planread::read` and `planwrite::write` by their contracts. Assumes nothing.
 use mathlib.Core.Path.{_≡_, sym, ap, _∙_}
 use mathlib.Core.Bool.{true}
-use mathlib.Core.List.{List}
-use Prim.Native.Nat.{ℕ, _≤_}
-use lib.ListN.{length, take, drop}
+use mathlib.Core.List.{List, [], _∷_}
+use Prim.Native.Nat.{ℕ, _*_, _≤_, _<_}
+use native.Mathlib.Omega.{arith}
+use lib.ListN.{length, take, drop, length-append, length-take}
 use lib.Seq.{take-append-seam}
 use borrow.Author.Tests.{le-leb}
+use Rattle.plan.specs.declared.Subscriber.{Subscriber}
 use Rattle.plan.specs.declared.Plan.{Plan}
 use Rattle.plan.specs.Sound.{sound}
 use Rattle.planbytes.specs.Numbers.{Below}
-use Rattle.planbytes.specs.Format.{bytesOf}
+use Rattle.plan.proofs.Laws.{few}
+use Rattle.planbytes.specs.Format.{field, subscriberBody, subscriberFields, bytesOf}
+use Rattle.planbytes.proofs.Lengths.{subscriber-size}
 use Rattle.planread.specs.Reading.{accepted, readOf}
 use Rattle.planwrite.specs.declared.Written.the-variants.{Bytes}
 use Rattle.planwrite.specs.Writing.{written, roomAfter}
-use Rattle.planfile.specs.Typed.{Typed}
+use Rattle.planwrite.proofs.Files.{file-length}
+use Rattle.planfile.specs.Typed.{AllTyped, Typed}
+use Rattle.planfile.proofs.States.{typed-take, used-length}
 use Rattle.planfile.proofs.There.{there-and-back}
 use Rattle.planfile.proofs.Back.{back-and-there}
 
@@ -62,3 +68,23 @@ read-then-write bs b p e room fits =
       write-answers p (f .kept-all) room inside ∙ ap (λ (l : List ℕ). Bytes (length l)) (f .bytes),
       ap (λ (l : List ℕ). take (length l) (roomAfter p room)) (sym (f .bytes)) ∙ write-leaves p (f .kept-all) room inside ∙ f .bytes,
     )
+
+-- ---- the longest file has 6,436 bytes: a longer input is never accepted
+
+fields-short : (xs : List Subscriber) → AllTyped xs → length (subscriberFields xs) ≤ 24 * length xs
+unfolding AllTyped subscriberFields
+fields-short [] p = omega arith
+fields-short (s ∷ xs) p =
+    let boxes : length (take (s .count) (s .boxes)) ≤ 4 = rw (length-take (s .count) (s .boxes)) (omega (arith, p .0 .four-boxes)) in
+    let one = subscriber-size s in
+    rw (length-append (field 5 (subscriberBody s)) (subscriberFields xs)) (omega (arith, fields-short xs (p .1)))
+
+pub longest : (p : Plan) → Typed p → sound p ≡ true → length (bytesOf p) ≤ 6436
+longest p 𝓣 𝓢 =
+    let short = fields-short (take (p .count) (p .subscribers)) (typed-take (p .count) (p .subscribers) (𝓣 .each-fits)) in
+    omega (arith, file-length p (𝓣 .source-rows) (𝓣 .target-rows), used-length p 𝓣 𝓢, few p 𝓢)
+
+pub too-long : (bs : List ℕ) → Below 256 bs → 6436 < length bs → (p : Plan) → readOf bs ≡ accepted p → ⊥
+too-long bs b h p e =
+    let f = back-and-there bs b p e in
+    omega (arith, longest p (f .typed) (f .kept-all), ap length (f .bytes))
