@@ -1,0 +1,15 @@
+-- Any two results that a contract of this crate allows are equal: read off the contract itself, as the function in src/ states it. Assumes nothing.
+use mathlib.Core.Path.{_≡_, sym, _∙_}
+use mathlib.Core.List.{List}
+use Prim.Native.Nat.{ℕ}
+use contract.Lifetimes.{Lfts}
+use denote.Ref.{RefT}
+use denote.Triple.Clauses.{AtExit}
+use borrow.Fn.Kinds.{endedOf}
+use Rattle.planread.specs.declared.Reading.{Reading}
+use Rattle.planread.proofs.read.Reads as read
+use Rattle.planread.proofs.read.Kinds as read-kinds
+
+pub read-exact : (κs : Lfts 1) (bytes : RefT (List ℕ)) (end : AtExit (endedOf 1 read-kinds.ps read-kinds.r) κs) (r s : Reading)
+    → read.Post κs (bytes, tt) r end → read.Post κs (bytes, tt) s end → r ≡ s
+read-exact κs bytes end r s p q = p ∙ sym q

@@ -1,0 +1,6 @@
+pub mod Fields
+pub mod Places
+pub mod Steps
+pub mod Turns
+pub mod Going
+pub mod Exact

@@ -1,0 +1,58 @@
+-- `planread::read_types` meets its contract. Assumes nothing.
+use mathlib.Core.Path.{sym, _∙_}
+use native.Mathlib.Omega.{arith}
+use Rattle.typeset.proofs.Bools.{passed, failed}
+use Rattle.planread.proofs.Turns.{types-room, types-broken, types-on}
+use Rattle.planread.proofs.Turns.{types-refused}
+use borrow.Author.Needs.{needs}
+use Rattle.planread.proofs.read_types.Statement.{statement}
+use Rattle.planread.proofs.read_types.Tie as tie
+
+header-requires : tie.Need-header-requires
+header-requires c κs = search needs
+
+enum-known-verdict : tie.Need-enum-known-verdict
+enum-known-verdict c = search needs
+
+refused-requires : tie.Need-refused-requires
+refused-requires c κs = search needs
+
+enum-told : tie.Need-enum-told
+enum-told c = search needs
+
+types-at-requires : tie.Need-types-at-requires
+types-at-requires c κs = omega (arith, types-room (c .before .before .before .before .args .bytes .now) (sym (c .before .before .header .ensures) ∙ c .enum-told .given .1))
+
+types-sound-requires : tie.Need-types-sound-requires
+types-sound-requires c κs = search needs
+
+refused-requires-2 : tie.Need-refused-requires-2
+refused-requires-2 c κs = search needs
+
+returns : tie.Need-returns
+returns c = c .refused2 .ensures ∙ sym (types-broken (c .before .before .before .before .before .before .before .before .args .bytes .now) (sym (c .before .before .before .before .before .before .header .ensures) ∙ c .before .before .before .before .enum-told .given .1) (c .before .before .before .types-at .ensures) (failed (c .before .before .types-sound .ensures) (c .before .if1 .taken)))
+
+read-source-requires : tie.Need-read-source-requires
+read-source-requires c κs = types-room (c .before .before .before .before .before .before .before .args .bytes .now) (sym (c .before .before .before .before .before .header .ensures) ∙ c .before .before .before .enum-told .given .1)
+
+returns-2 : tie.Need-returns-2
+returns-2 c = c .refused .ensures ∙ sym (types-refused (c .before .before .before .before .before .before .args .bytes .now) (sym (c .before .before .before .before .header .ensures) ∙ c .before .before .verdict .given .1))
+
+returns-3 : tie.Need-returns-3
+returns-3 c = c .read-source .ensures ∙ sym (types-on (c .before .before .before .before .before .before .before .before .args .bytes .now) (sym (c .before .before .before .before .before .before .header .ensures) ∙ c .before .before .before .before .enum-told .given .1) (c .before .before .before .types-at .ensures) (passed (c .before .before .types-sound .ensures) (c .before .if1 .left)))
+
+pub read-types-spec : {M : Type 1} → statement M
+read-types-spec =
+    tie.close
+    (tie.spec
+    header-requires
+    enum-known-verdict
+    refused-requires
+    enum-told
+    types-at-requires
+    types-sound-requires
+    refused-requires-2
+    returns
+    read-source-requires
+    returns-2
+    returns-3)

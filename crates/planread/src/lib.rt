@@ -1,0 +1,383 @@
+// Any bytes read as a plan file: the plan, or the refusal of the first field at which they stop being one.
+ghost use mathlib.Core.Path.{_≡_};
+ghost use mathlib.Core.Bool.{_&&_};
+ghost use mathlib.Core.List.{_++_};
+ghost use Prim.Native.Nat.{_+_, _*_, _-_, _%_, _≤_, _<_};
+ghost use lib.Dec.{leb, ltb, eqb};
+ghost use lib.ListN.{length, take, drop, replicate};
+ghost use Rattle.plan.specs.Sound.{ownSound};
+ghost use Rattle.plan.specs.Table.{fits};
+ghost use Rattle.planbytes.specs.Numbers.{number, numbers};
+ghost use Rattle.planread.specs.Reading.{nobody, planOf, blankPlan, typesIn, orderIn, subscriberWith, allowed, everLong, header, refused, ended, readFrom, readOf};
+use plan::Plan;
+use plan::Subscriber;
+use plan::Types;
+use plan::Verdict;
+use refusal::Refusal;
+
+// What reading answers: sound, with the plan, or a refusal, with a blank one beside it.
+pub struct Reading {
+    pub answer: Verdict,
+    pub plan: Plan,
+}
+
+// ---- numbers, high byte first
+
+fn wide(b: u8) -> u32
+    ensures { λ r. ⌜ (r ≡ b) × (r < 256) ⌝ }
+{
+    b as u32
+}
+
+// The number of two bytes at a place.
+fn two(bytes: &[u8], at: usize) -> u16
+    requires { ⌜ at + 2 ≤ length (now bytes) ⌝ }
+    ensures { λ r. ⌜ r ≡ number (take 2 (drop at (now (bytes .entry)))) ⌝ }
+{
+    (wide(bytes[at]) * 256 + wide(bytes[at + 1])) as u16
+}
+
+// The number of four bytes at a place.
+fn four(bytes: &[u8], at: usize) -> u32
+    requires { ⌜ at + 4 ≤ length (now bytes) ⌝ }
+    ensures { λ r. ⌜ r ≡ number (take 4 (drop at (now (bytes .entry)))) ⌝ }
+{
+    ((wide(bytes[at]) * 256 + wide(bytes[at + 1])) * 256 + wide(bytes[at + 2])) * 256
+        + wide(bytes[at + 3])
+}
+
+// ---- what the body of a field says, from the place where it begins
+
+// The five sets.
+fn types_at(bytes: &[u8], at: usize) -> Types
+    requires { ⌜ at + 20 ≤ length (now bytes) ⌝ }
+    ensures { λ r. ⌜ r ≡ typesIn (drop at (now (bytes .entry))) ⌝ }
+{
+    Types {
+        existing: four(bytes, at),
+        bound: four(bytes, at + 4),
+        reversible: four(bytes, at + 8),
+        source_choice: four(bytes, at + 12),
+        target_choice: four(bytes, at + 16),
+    }
+}
+
+// The 32 rows of an order.
+fn order_at(bytes: &[u8], at: usize) -> [u32; 32]
+    requires { ⌜ at + 128 ≤ length (now bytes) ⌝ }
+    ensures { λ r. ⌜ r ≡ orderIn (drop at (now (bytes .entry))) ⌝ }
+{
+    let mut rows = [0u32; 32];
+    for t in 0usize..32usize {
+        rows[t] = four(bytes, at + 4 * t);
+    }
+    rows
+}
+
+// A subscriber's box numbers, and zero in the places past them.
+fn boxes_at(bytes: &[u8], at: usize, count: usize) -> [u16; 4]
+    requires { ⌜ (count ≤ 4) × (at + 2 * count ≤ length (now bytes)) ⌝ }
+    ensures { λ r. ⌜ r ≡ numbers 2 count (drop at (now (bytes .entry))) ++ replicate (4 - count) 0 ⌝ }
+{
+    let mut boxes = [0u16; 4];
+    for x in 0usize..count {
+        boxes[x] = two(bytes, at + 2 * x);
+    }
+    boxes
+}
+
+// A subscriber that has this many box numbers.
+fn subscriber_at(bytes: &[u8], at: usize, count: usize) -> Subscriber
+    requires { ⌜ (count ≤ 4) × (at + 13 + 2 * count ≤ length (now bytes)) ⌝ }
+    ensures { λ r. ⌜ r ≡ subscriberWith count (drop at (now (bytes .entry))) ⌝ }
+{
+    let boxes = boxes_at(bytes, at + 13, count);
+    Subscriber {
+        kind: bytes[at],
+        address: four(bytes, at + 1),
+        source: four(bytes, at + 5),
+        target: four(bytes, at + 9),
+        boxes,
+        count: count as u8,
+    }
+}
+
+// ---- the tests at a field
+
+// Whether a tag is allowed after this many of the four fixed fields.
+fn allowed(stage: u8, tag: u8) -> bool
+    requires { ⌜ stage ≤ 4 ⌝ }
+    ensures { λ r. ⌜ r ≡ allowed stage tag ⌝ }
+{
+    if stage < 4 {
+        return tag == stage + 1;
+    }
+    if tag == 5 {
+        return true;
+    }
+    tag == 127
+}
+
+// Whether a subscriber's field ever has this length.
+fn subscriber_long(n: u16) -> bool
+    ensures { λ r. ⌜ r ≡ (leb 13 n && leb n 21 && eqb (n % 2) 1) ⌝ }
+{
+    if n < 13 {
+        return false;
+    }
+    if 21 < n {
+        return false;
+    }
+    n % 2 == 1
+}
+
+// Whether a field with this tag ever has this length.
+fn ever_long(tag: u8, n: u16) -> bool
+    ensures { λ r. ⌜ r ≡ everLong tag n ⌝ }
+{
+    if tag == 1 {
+        return n == 1;
+    }
+    if tag == 2 {
+        return n == 20;
+    }
+    if tag == 3 {
+        return n == 128;
+    }
+    if tag == 4 {
+        return n == 128;
+    }
+    if tag == 5 {
+        return subscriber_long(n);
+    }
+    n == 0
+}
+
+// Whether a field with this tag, after so many subscribers, is one subscriber too many.
+fn too_many(tag: u8, count: usize) -> bool
+    ensures { λ r. ⌜ r ≡ (eqb tag 5 && leb 256 count) ⌝ }
+{
+    if tag == 5 { 256 <= count } else { false }
+}
+
+// The tests at a field that come before its rules.
+fn header(bytes: &[u8], stage: u8, count: usize, at: usize) -> Verdict
+    requires { ⌜ (stage ≤ 4) × (at ≤ length (now bytes)) ⌝ }
+    ensures { λ r. ⌜ r ≡ header stage count at (drop at (now (bytes .entry))) ⌝ }
+{
+    let left = bytes.len() - at;
+    if left < 3 {
+        return Verdict::Refused(Refusal::WrongEnd(at));
+    }
+    let tag = bytes[at];
+    if !allowed(stage, tag) {
+        return Verdict::Refused(Refusal::WrongTag(at));
+    }
+    if too_many(tag, count) {
+        return Verdict::Refused(Refusal::TooManySubscribers(at));
+    }
+    let n = two(bytes, at + 1);
+    if !ever_long(tag, n) {
+        return Verdict::Refused(Refusal::WrongLength(at));
+    }
+    if left < 3 + n as usize {
+        return Verdict::Refused(Refusal::WrongEnd(at));
+    }
+    Verdict::Sound
+}
+
+// ---- the file
+
+// No subscriber.
+fn nobody() -> Subscriber
+    ensures { λ r. ⌜ r ≡ nobody ⌝ }
+{
+    Subscriber {
+        kind: 0,
+        address: 0,
+        source: 0,
+        target: 0,
+        boxes: [0u16; 4],
+        count: 0,
+    }
+}
+
+// What stands beside a refusal: a plan in which all is zero.
+fn blank_plan() -> Plan
+    ensures { λ r. ⌜ r ≡ blankPlan ⌝ }
+{
+    let nobody = nobody();
+    Plan {
+        types: Types {
+            existing: 0,
+            bound: 0,
+            reversible: 0,
+            source_choice: 0,
+            target_choice: 0,
+        },
+        source_order: [0u32; 32],
+        target_order: [0u32; 32],
+        subscribers: [nobody; 256],
+        count: 0,
+    }
+}
+
+fn refused(r: Refusal) -> Reading
+    ensures { λ x. ⌜ x ≡ refused r ⌝ }
+{
+    let plan = blank_plan();
+    Reading {
+        answer: Verdict::Refused(r),
+        plan,
+    }
+}
+
+// What comes after the end field: nothing, or bytes too many.
+fn finish(
+    bytes: &[u8],
+    at: usize,
+    types: Types,
+    source: [u32; 32],
+    target: [u32; 32],
+    subscribers: [Subscriber; 256],
+    count: usize,
+) -> Reading
+    requires { ⌜ count ≤ 256 ⌝ }
+    ensures { λ r. ⌜ r ≡ ended (planOf types source target subscribers count) at (drop at (now (bytes .entry))) ⌝ }
+{
+    if at < bytes.len() {
+        return refused(Refusal::WrongEnd(at));
+    }
+    Reading {
+        answer: Verdict::Sound,
+        plan: Plan {
+            types,
+            source_order: source,
+            target_order: target,
+            subscribers,
+            count: count as u16,
+        },
+    }
+}
+
+// Whether a subscriber keeps its rules beside those before it: its own, an address above the last one's, and box numbers that it may have.
+fn keeps(types: Types, s: Subscriber, last: u32, taken: &[u8; 65536]) -> bool
+    ensures { λ r. ⌜ r ≡ (ownSound types s && ltb last (s .address) && fits (now (taken .entry)) s) ⌝ }
+{
+    if !plan::own_sound(types, s) {
+        return false;
+    }
+    if s.address <= last {
+        return false;
+    }
+    plan::fits(taken, s)
+}
+
+// The fields after the four fixed ones: a subscriber at each turn, until the end field. Nobody has a box number to begin with.
+fn read_subscribers(
+    bytes: &[u8],
+    types: Types,
+    source: [u32; 32],
+    target: [u32; 32],
+    taken: &mut [u8; 65536],
+) -> Reading
+    requires { ⌜ (289 ≤ length (now bytes)) × (now taken ≡ replicate 65536 0) ⌝ }
+    ensures { λ r. ⌜ r ≡ readFrom 257 4 (planOf types source target (replicate 256 nobody) 0) 289 (drop 289 (now (bytes .entry))) ⌝ }
+{
+    let nobody = nobody();
+    let mut subscribers = [nobody; 256];
+    let mut count = 0usize;
+    let mut last = 0u32;
+    let mut at = 289usize;
+    loop {
+        let verdict = header(bytes, 4, count, at);
+        match verdict {
+            Verdict::Refused(r) => return refused(r),
+            Verdict::Sound => {}
+        }
+        if bytes[at] == 127 {
+            return finish(bytes, at + 3, types, source, target, subscribers, count);
+        }
+        let n = two(bytes, at + 1) as usize;
+        let s = subscriber_at(bytes, at + 3, (n - 13) / 2);
+        if !keeps(types, s, last, taken) {
+            return refused(Refusal::RuleBroken(at));
+        }
+        plan::claim(taken, s);
+        subscribers[count] = s;
+        last = s.address;
+        count += 1;
+        at = at + (3 + n);
+    }
+}
+
+// From the target order on.
+fn read_target(bytes: &[u8], types: Types, source: [u32; 32]) -> Reading
+    requires { ⌜ 158 ≤ length (now bytes) ⌝ }
+    ensures { λ r. ⌜ r ≡ readFrom 258 3 (planOf types source (replicate 32 0) (replicate 256 nobody) 0) 158 (drop 158 (now (bytes .entry))) ⌝ }
+{
+    let verdict = header(bytes, 3, 0, 158);
+    match verdict {
+        Verdict::Refused(r) => refused(r),
+        Verdict::Sound => {
+            let target = order_at(bytes, 161);
+            if !plan::target_sound(types, source, target) {
+                return refused(Refusal::RuleBroken(158));
+            }
+            let mut taken = [0u8; 65536];
+            read_subscribers(bytes, types, source, target, &mut taken)
+        }
+    }
+}
+
+// From the source order on.
+fn read_source(bytes: &[u8], types: Types) -> Reading
+    requires { ⌜ 27 ≤ length (now bytes) ⌝ }
+    ensures { λ r. ⌜ r ≡ readFrom 259 2 (planOf types (replicate 32 0) (replicate 32 0) (replicate 256 nobody) 0) 27 (drop 27 (now (bytes .entry))) ⌝ }
+{
+    let verdict = header(bytes, 2, 0, 27);
+    match verdict {
+        Verdict::Refused(r) => refused(r),
+        Verdict::Sound => {
+            let source = order_at(bytes, 30);
+            if !plan::source_sound(types, source) {
+                return refused(Refusal::RuleBroken(27));
+            }
+            read_target(bytes, types, source)
+        }
+    }
+}
+
+// From the five sets on.
+fn read_types(bytes: &[u8]) -> Reading
+    requires { ⌜ 4 ≤ length (now bytes) ⌝ }
+    ensures { λ r. ⌜ r ≡ readFrom 260 1 blankPlan 4 (drop 4 (now (bytes .entry))) ⌝ }
+{
+    let verdict = header(bytes, 1, 0, 4);
+    match verdict {
+        Verdict::Refused(r) => refused(r),
+        Verdict::Sound => {
+            let types = types_at(bytes, 7);
+            if !plan::types_sound(types) {
+                return refused(Refusal::RuleBroken(4));
+            }
+            read_source(bytes, types)
+        }
+    }
+}
+
+// Any bytes: the plan whose file they are, or the refusal of the first field at which they stop being one.
+pub fn read(bytes: &[u8]) -> Reading
+    ensures { λ r. ⌜ r ≡ readOf (now (bytes .entry)) ⌝ }
+{
+    let verdict = header(bytes, 0, 0, 0);
+    match verdict {
+        Verdict::Refused(r) => refused(r),
+        Verdict::Sound => {
+            if bytes[3] != 1 {
+                return refused(Refusal::RuleBroken(0));
+            }
+            read_types(bytes)
+        }
+    }
+}

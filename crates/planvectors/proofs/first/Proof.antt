@@ -1,0 +1,21 @@
+-- `planvectors::first` meets its contract. Assumes nothing.
+use mathlib.Core.Path.{sym}
+use lib.Seq.{length-take-le}
+use borrow.Author.Needs.{needs}
+use Rattle.planvectors.proofs.first.Statement.{statement}
+use Rattle.planvectors.proofs.first.Tie as tie
+
+slice-aggregate-of-reading : tie.Need-slice-aggregate-of-reading
+slice-aggregate-of-reading c = sym (length-take-le (c .before .before .before .args .n) (c .before .before .before .args .file .now) (c .before .if1 .taken))
+
+of-reading-requires : tie.Need-of-reading-requires
+of-reading-requires c κs = search needs
+
+returns : tie.Need-returns
+returns c = search needs
+
+returns-2 : tie.Need-returns-2
+returns-2 c = search needs
+
+pub first-spec : {M : Type 1} → statement M
+first-spec = tie.close (tie.spec slice-aggregate-of-reading of-reading-requires returns returns-2)

@@ -1,0 +1,76 @@
+-- A file as a whole: how many bytes it has, and what writing it leaves in the room. Assumes nothing.
+use mathlib.Core.Path.{_≡_, refl, sym, ap, _∙_}
+use mathlib.Core.Bool.{true, false}
+use mathlib.Core.List.{List, _++_}
+use Prim.Native.Nat.{ℕ, _+_, _≤_, _<_}
+use native.Mathlib.Nat.{zero-add}
+use native.Mathlib.Omega.{arith}
+use lib.Dec.{leb}
+use lib.ListN.{length, take, length-append}
+use lib.Seq.{sets, sets-eq}
+use borrow.Author.Tests.{le-leb, lt-leb}
+use Rattle.refusal.specs.declared.Refusal.the-variants.{RuleBroken, RoomTooShort}
+use Rattle.plan.specs.declared.Plan.{Plan}
+use Rattle.plan.specs.Sound.{sound}
+use Rattle.planwrite.specs.declared.Written.the-variants.{Bytes, Refused}
+use Rattle.planbytes.specs.Numbers.{high}
+use Rattle.planbytes.specs.Format.{field, headFields, subscriberFields, endField, bytesOf}
+use Rattle.planwrite.specs.Writing.{written, roomAfter}
+use Rattle.planwrite.proofs.Puts.{puts-then}
+use Rattle.planbytes.proofs.Lengths.{head-length}
+
+pub end-is : endField ≡ high 1 127 ++ high 2 0
+unfolding endField field high
+end-is = refl
+
+module _ (p : Plan) (rows : length (p .«source_order») ≡ 32) (columns : length (p .«target_order») ≡ 32) where
+  head-is : length (headFields (p .types) (p .«source_order») (p .«target_order»)) ≡ 289
+  head-is = head-length (p .types) (p .«source_order») (p .«target_order») rows columns
+
+  before-end : length (headFields (p .types) (p .«source_order») (p .«target_order») ++ subscriberFields (take (p .count) (p .subscribers)))
+      ≡ 289 + length (subscriberFields (take (p .count) (p .subscribers)))
+  before-end =
+      length-append (headFields (p .types) (p .«source_order») (p .«target_order»)) (subscriberFields (take (p .count) (p .subscribers)))
+      ∙ ap (λ (n : ℕ). n + length (subscriberFields (take (p .count) (p .subscribers)))) head-is
+
+  pub file-length : length (bytesOf p) ≡ 292 + length (subscriberFields (take (p .count) (p .subscribers)))
+  unfolding bytesOf endField field high
+  file-length =
+      length-append (headFields (p .types) (p .«source_order») (p .«target_order») ++ subscriberFields (take (p .count) (p .subscribers))) endField
+      ∙ rw before-end (omega arith)
+
+  module _ (room : List ℕ) where
+    pub write-broken : sound p ≡ false → (Refused (RuleBroken 0) ≡ written p room) × (room ≡ roomAfter p room)
+    unfolding written roomAfter
+    write-broken e = (rw e, rw e)
+
+    pub write-short : sound p ≡ true → length room < 292 + length (subscriberFields (take (p .count) (p .subscribers)))
+        → (Refused (RoomTooShort 0) ≡ written p room) × (room ≡ roomAfter p room)
+    unfolding written roomAfter
+    write-short e h =
+        let short : leb (length (bytesOf p)) (length room) ≡ false = lt-leb (length (bytesOf p)) (length room) (rw file-length h) in
+        (rw (e, short), rw (e, short))
+
+    file-put : {a b c : List ℕ} → a ≡ sets room 0 (headFields (p .types) (p .«source_order») (p .«target_order»))
+        → b ≡ sets a 289 (subscriberFields (take (p .count) (p .subscribers)))
+        → c ≡ sets b (289 + length (subscriberFields (take (p .count) (p .subscribers)))) (high 1 127 ++ high 2 0)
+        → c ≡ sets room 0 (bytesOf p)
+    unfolding bytesOf
+    file-put x y z =
+        puts-then room (headFields (p .types) (p .«source_order») (p .«target_order») ++ subscriberFields (take (p .count) (p .subscribers))) endField 0
+        (289 + length (subscriberFields (take (p .count) (p .subscribers)))) (289 + length (subscriberFields (take (p .count) (p .subscribers))))
+        (puts-then room (headFields (p .types) (p .«source_order») (p .«target_order»)) (subscriberFields (take (p .count) (p .subscribers))) 0 289 289 x y head-is refl)
+        (z ∙ rw end-is) before-end (sym (zero-add (289 + length (subscriberFields (take (p .count) (p .subscribers))))))
+
+    pub write-done : {n : ℕ} {a b c : List ℕ} → sound p ≡ true → n ≡ 292 + length (subscriberFields (take (p .count) (p .subscribers))) → n ≤ length room
+        → a ≡ sets room 0 (headFields (p .types) (p .«source_order») (p .«target_order»))
+        → b ≡ sets a 289 (subscriberFields (take (p .count) (p .subscribers)))
+        → c ≡ sets b (289 + length (subscriberFields (take (p .count) (p .subscribers)))) (high 1 127 ++ high 2 0)
+        → (Bytes n ≡ written p room) × (c ≡ roomAfter p room)
+    unfolding written roomAfter
+    write-done {n} {a} {b} {c} e size h x y z =
+        let is : length (bytesOf p) ≡ n = file-length ∙ sym size in
+        let fits : length (bytesOf p) ≤ length room = rw is h in
+        let yes : leb (length (bytesOf p)) (length room) ≡ true = le-leb (length (bytesOf p)) (length room) fits in
+        let put : c ≡ sets room 0 (bytesOf p) = file-put x y z in
+        (rw (e, yes, is), rw (e, yes) (put ∙ sets-eq (bytesOf p) room 0 (rw zero-add fits) ∙ rw zero-add))
