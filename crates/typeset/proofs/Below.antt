@@ -217,6 +217,11 @@ some-but n p u h =
     (λ q. let r = some-at n (λ t. p t && not (eqb t u)) q in some-of n p (r .0) (r .1) (and-left (p (r .0)) (not (eqb (r .0) u)) (r .2)))
     (or-cases (p u) rest e))
 
+pub every-ext : (n : ℕ) (p q : ℕ → Bool) → ((t : ℕ) → t < n → p t ≡ q t) → every n p ≡ every n q
+unfolding every
+every-ext zero p q f = refl
+every-ext (suc n) p q f = ap₂ _&&_ (f 0 (zero-lt-suc n)) (every-ext n (later p) (later q) (λ t h. f (suc t) (suc-le-suc h)))
+
 -- two tests at once
 pub every-and : (n : ℕ) (p q : ℕ → Bool) → every n (λ t. p t && q t) ≡ (every n p && every n q)
 every-and n p q =

@@ -1,0 +1,21 @@
+-- `call::Call::accept` meets its contract. Assumes nothing.
+use mathlib.Core.Path.{ap, _∙_, sym}
+use Rattle.call.specs.Parts.{oneSent}
+use Rattle.call.specs.declared.Side.the-variants.{Callee}
+use Rattle.call.specs.declared.Signal.the-variants.{Upack}
+use Rattle.call.proofs.Steps.{accepts}
+use borrow.Author.Needs.{needs}
+use Rattle.call.proofs.Call.accept.Statement.{statement}
+use Rattle.call.proofs.Call.accept.Tie as tie
+
+answer-requires : tie.Need-answer-requires
+answer-requires c κs = search needs
+
+one-sent-requires : tie.Need-one-sent-requires
+one-sent-requires c κs = search needs
+
+returns : tie.Need-returns
+returns c = c .one-sent .ensures ∙ ap (λ v. oneSent (c .before .before .args .self) Callee v Upack) (c .before .answer .ensures) ∙ sym (accepts (c .before .before .args .self))
+
+pub accept-spec : {M : Type 1} → statement M
+accept-spec = tie.close (tie.spec answer-requires one-sent-requires returns)

@@ -1,0 +1,82 @@
+-- `call::Call::deliver` meets its contract. Assumes nothing.
+use mathlib.Core.Path.{_≡_, ap, ap₂, _∙_, sym}
+use Prim.Native.Nat.{_<_}
+use Rattle.call.specs.Protocol.{stateOf, queueTo, slot, takes}
+use Rattle.call.specs.Parts.{replied}
+use Rattle.call.specs.declared.End.{End}
+use Rattle.call.specs.declared.Signal.{Signal}
+use Rattle.call.specs.declared.Queue.{Queue}
+use Rattle.call.specs.declared.Verdict.the-variants.{Refuse, Become}
+use Rattle.call.proofs.Steps.{pos, deliver-none, deliver-refuse, deliver-become}
+use borrow.Author.Needs.{needs}
+use Rattle.call.proofs.Call.deliver.Statement.{statement}
+use Rattle.call.proofs.Call.deliver.Tie as tie
+
+queue-requires : tie.Need-queue-requires
+queue-requires c κs = search needs
+
+refused-requires : tie.Need-refused-requires
+refused-requires c κs = search needs
+
+returns : tie.Need-returns
+returns c =
+    let a = c .before .before .before .before .args in
+    c .refused .ensures ∙ sym (deliver-none (a .self) (a .s) (sym (ap (λ (y : Queue). y .count) (c .before .before .before .queue .ensures)) ∙ c .before .if1 .taken))
+
+head-requires : tie.Need-head-requires
+head-requires c κs = search needs
+
+end-requires : tie.Need-end-requires
+end-requires c κs = search needs
+
+take-requires : tie.Need-take-requires
+take-requires c κs = search needs
+
+enum-known-v : tie.Need-enum-known-v
+enum-known-v c = search needs
+
+refused-requires-2 : tie.Need-refused-requires-2
+refused-requires-2 c κs = search needs
+
+enum-known-v-2 : tie.Need-enum-known-v-2
+enum-known-v-2 c = search needs
+
+replied-requires : tie.Need-replied-requires
+replied-requires c κs = rw (c .before .before .before .before .before .before .before .before .queue .ensures) at (pos (c .before .before .before .before .before .before .if1 .left))
+
+returns-2 : tie.Need-returns-2
+returns-2 c =
+    let a = c .before .before .before .before .before .before .before .before .before .before .args in
+    let q = c .before .before .before .before .before .before .before .before .before .queue .ensures in
+    let h : 0 < queueTo (a .s) (a .self) .count = rw q at (pos (c .before .before .before .before .before .before .before .if1 .left)) in
+    let x = c .before .before .before .before .before .before .head .ensures ∙ ap (λ (y : Queue). slot (y .slots) 0 .signal) q in
+    let t : takes (stateOf (a .s) (a .self)) (slot (queueTo (a .s) (a .self) .slots) 0 .signal) ≡ Refuse (c .before .before .v .given .0 .0) =
+    sym (c .before .before .before .before .take .ensures ∙ ap₂ (λ (e : End) (y : Signal). takes (e .state) y) (c .before .before .before .before .before .end .ensures) x) ∙ c .before .before .v .given .1 in
+    c .refused2 .ensures ∙ sym (deliver-refuse (a .self) (a .s) _ h t)
+
+returns-3 : tie.Need-returns-3
+returns-3 c =
+    let a = c .before .before .before .before .before .before .before .before .before .before .args in
+    let q = c .before .before .before .before .before .before .before .before .before .queue .ensures in
+    let h : 0 < queueTo (a .s) (a .self) .count = rw q at (pos (c .before .before .before .before .before .before .before .if1 .left)) in
+    let x = c .before .before .before .before .before .before .head .ensures ∙ ap (λ (y : Queue). slot (y .slots) 0 .signal) q in
+    let t : takes (stateOf (a .s) (a .self)) (slot (queueTo (a .s) (a .self) .slots) 0 .signal) ≡ Become (c .before .before .v2 .given .0 .0) =
+    sym (c .before .before .before .before .take .ensures ∙ ap₂ (λ (e : End) (y : Signal). takes (e .state) y) (c .before .before .before .before .before .end .ensures) x) ∙ c .before .before .v2 .given .1 in
+    c .replied .ensures ∙ ap (replied (a .self) (a .s) (c .before .before .v2 .given .0 .0)) x ∙ sym (deliver-become (a .self) (a .s) _ h (c .before .before .before .before .before .before .before .before .before .before .pre) t)
+
+pub deliver-spec : {M : Type 1} → statement M
+deliver-spec =
+    tie.close
+    (tie.spec
+    queue-requires
+    refused-requires
+    returns
+    head-requires
+    end-requires
+    take-requires
+    enum-known-v
+    refused-requires-2
+    enum-known-v-2
+    replied-requires
+    returns-2
+    returns-3)

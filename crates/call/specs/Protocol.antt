@@ -1,0 +1,298 @@
+-- The call protocol (01 'Calls', manual 8): what a command on a call record answers, and the record after it. Every definition computes. Assumes nothing.
+use Prim.Native.Nat.{ℕ, zero, suc, _+_, _-_, _%_}
+use mathlib.Core.Bool.{Bool, true, false, cond, _&&_}
+use mathlib.Core.List.{List, [], _∷_, _++_}
+use lib.ListN.{length, getD, drop, set, replicate}
+use lib.Dec.{leb, ltb, eqb}
+use Rattle.refusal.specs.declared.Refusal.{Refusal}
+use Rattle.refusal.specs.declared.Refusal.the-variants.{StateForbids, TooManyWaiting, NothingWaiting, NotOrdinary, BrokenRecord}
+use Rattle.refusal.specs.Numbers.{numberOf}
+use Rattle.call.specs.declared.State.{State}
+use Rattle.call.specs.declared.State.the-variants.{Idle, Requesting, Waiting, Linked, Unlinking}
+use Rattle.call.specs.declared.End.{End}
+use Rattle.call.specs.declared.Status.{Status}
+use Rattle.call.specs.declared.Status.the-variants.{Unknown, Avail, Unavail, None, Dtmf, Special}
+use Rattle.call.specs.declared.Signal.{Signal}
+use Rattle.call.specs.declared.Signal.the-variants.{Upack, Ordinary, Teardown, Downack}
+use Rattle.call.specs.declared.Slot.{Slot}
+use Rattle.call.specs.declared.Queue.{Queue}
+use Rattle.call.specs.declared.Call.{Call}
+use Rattle.call.specs.declared.Side.{Side}
+use Rattle.call.specs.declared.Side.the-variants.{Caller, Callee}
+use Rattle.call.specs.declared.Command.{Command}
+use Rattle.call.specs.declared.Command.the-variants.{Accept, Busy, Unobtainable, Send, Teardown as Hang-up, Deliver}
+use Rattle.call.specs.declared.Answer.{Answer}
+use Rattle.call.specs.declared.Answer.the-variants.{Accepted, Delivered, Refused}
+use Rattle.call.specs.declared.Step.{Step}
+use Rattle.call.specs.declared.Verdict.{Verdict}
+use Rattle.call.specs.declared.Verdict.the-variants.{Refuse as refuse, Become as become}
+
+-- THE TWO SIDES
+-- Only the callee answers; every other command names the side it is for. That side's end acts.
+abbrev pub actor : Command → Side
+actor Accept = Callee
+actor Busy = Callee
+actor Unobtainable = Callee
+actor (Send s t x) = s
+actor (Hang-up s) = s
+actor (Deliver s) = s
+
+abbrev pub other : Side → Side
+other Caller = Callee
+other Callee = Caller
+
+-- a side's end with its state, and the queue towards it
+abbrev pub endOf : Side → Call → End
+endOf Caller c = c .caller
+endOf Callee c = c .callee
+
+abbrev pub stateOf : Side → Call → State
+stateOf s c = endOf s c .state
+
+abbrev pub queueTo : Side → Call → Queue
+queueTo Caller c = c .«to_caller»
+queueTo Callee c = c .«to_callee»
+
+-- STATES
+abbrev pub isIdle : State → Bool
+isIdle Idle = true
+isIdle Requesting = false
+isIdle Waiting = false
+isIdle Linked = false
+isIdle Unlinking = false
+
+abbrev pub isWaiting : State → Bool
+isWaiting Idle = false
+isWaiting Requesting = false
+isWaiting Waiting = true
+isWaiting Linked = false
+isWaiting Unlinking = false
+
+abbrev pub isLinked : State → Bool
+isLinked Idle = false
+isLinked Requesting = false
+isLinked Waiting = false
+isLinked Linked = true
+isLinked Unlinking = false
+
+-- A record is free when both ends are idle.
+abbrev pub isFree : Call → Bool
+isFree c = isIdle (stateOf Caller c) && isIdle (stateOf Callee c)
+
+-- SIGNALS
+-- The ordinary signals: unknown, avail, unavail and none in tunnel 0; dtmf with one of twelve symbols (0 to 9 for the digits, 10 for *, 11 for #) in a tunnel from 1 on; special with any code in any tunnel.
+abbrev pub isOrdinary : ℕ → Status → Bool
+isOrdinary tunnel Unknown = eqb tunnel 0
+isOrdinary tunnel Avail = eqb tunnel 0
+isOrdinary tunnel Unavail = eqb tunnel 0
+isOrdinary tunnel None = eqb tunnel 0
+isOrdinary tunnel (Dtmf symbol) = ltb 0 tunnel && ltb symbol 12
+isOrdinary tunnel (Special code) = true
+
+-- QUEUES
+-- A slot that holds nothing is blank: it has one fixed value, so that no signal of the past can be read there.
+abbrev pub blank : Slot
+blank = record { signal = Upack }
+
+abbrev pub emptyQueue : Queue
+emptyQueue = record { slots = replicate 16 blank; count = 0 }
+
+-- The head is at slot 0, and the first `count` slots hold the signals that wait, the oldest first.
+abbrev pub slot : List Slot → ℕ → Slot
+slot xs i = getD xs i blank
+
+abbrev pub signals : ℕ → List Slot → List Signal
+signals zero xs = []
+signals (suc n) xs = slot xs 0 .signal ∷ signals n (drop 1 xs)
+
+abbrev pub held : Queue → List Signal
+held q = signals (q .count) (q .slots)
+
+-- the signals that wait for a side's end
+abbrev pub waiting : Side → Call → List Signal
+waiting s c = held (queueTo s c)
+
+-- A signal goes in at the count.
+abbrev pub push : Queue → Signal → Queue
+push q x = record { slots = set (q .slots) (q .count) (record { signal = x }); count = q .count + 1 }
+
+abbrev pub pushes : Queue → List Signal → Queue
+pushes q [] = q
+pushes q (x ∷ xs) = pushes (push q x) xs
+
+-- n slots from slot j on
+abbrev pub slotsFrom : ℕ → ℕ → List Slot → List Slot
+slotsFrom zero j xs = []
+slotsFrom (suc n) j xs = slot xs j ∷ slotsFrom n (suc j) xs
+
+-- The head goes out: the others move one slot down, and the last slot is blank.
+abbrev pub pop : Queue → Queue
+pop q = record { slots = slotsFrom 15 1 (q .slots) ++ blank ∷ []; count = q .count - 1 }
+
+-- WHAT AN END DOES
+-- an end in a state
+abbrev pub to : State → Verdict
+to s = become (record { state = s })
+
+-- The callee answers once: a waiting end, which is in the state `next` then.
+abbrev pub answers : State → State → Verdict
+answers s next = cond (isWaiting s) (to next) (refuse StateForbids)
+
+-- A linked end may send an ordinary signal while fewer than 14 wait there, and stays linked: 12, 15, 13.
+abbrev pub speaks : State → ℕ → Status → ℕ → Verdict
+speaks s tunnel x n =
+    cond (isLinked s)
+    (cond (isOrdinary tunnel x) (cond (ltb n 14) (to Linked) (refuse TooManyWaiting)) (refuse NotOrdinary))
+    (refuse StateForbids)
+
+-- A linked end may send teardown, and is unlinking then.
+abbrev pub tears : State → Verdict
+tears s = cond (isLinked s) (to Unlinking) (refuse StateForbids)
+
+-- An ordinary signal handed over leaves the end in its state; one outside the list can't be taken.
+abbrev pub hears : State → ℕ → Status → Verdict
+hears s tunnel x = cond (isOrdinary tunnel x) (to s) (refuse BrokenRecord)
+
+-- What an end does with a signal handed to it. Requesting takes upack and is linked; linked takes ordinary signals, and on teardown is idle; unlinking takes ordinary signals, stays on teardown, and on downack is idle. Nothing else can be taken.
+abbrev pub takes : State → Signal → Verdict
+takes Idle x = refuse BrokenRecord
+takes Requesting Upack = to Linked
+takes Requesting (Ordinary tunnel x) = refuse BrokenRecord
+takes Requesting Teardown = refuse BrokenRecord
+takes Requesting Downack = refuse BrokenRecord
+takes Waiting x = refuse BrokenRecord
+takes Linked Upack = refuse BrokenRecord
+takes Linked (Ordinary tunnel x) = hears Linked tunnel x
+takes Linked Teardown = to Idle
+takes Linked Downack = refuse BrokenRecord
+takes Unlinking Upack = refuse BrokenRecord
+takes Unlinking (Ordinary tunnel x) = hears Unlinking tunnel x
+takes Unlinking Teardown = to Unlinking
+takes Unlinking Downack = to Idle
+
+-- Delivery takes the head of what waits; 14 where nothing does.
+abbrev pub deliver : State → List Signal → Verdict
+deliver s [] = refuse NothingWaiting
+deliver s (x ∷ w) = takes s x
+
+-- What comes of a command for an end in state s, with the signals w waiting for it, and n signals waiting for the other end.
+abbrev pub decide : Command → State → List Signal → ℕ → Verdict
+decide Accept s w n = answers s Linked
+decide Busy s w n = answers s Unlinking
+decide Unobtainable s w n = answers s Unlinking
+decide (Send e tunnel x) s w n = speaks s tunnel x n
+decide (Hang-up e) s w n = tears s
+decide (Deliver e) s w n = deliver s w
+
+-- WHAT IS SENT
+-- A teardown that is handed over is answered by a downack; nothing else is.
+abbrev pub reply : List Signal → List Signal
+reply [] = []
+reply (Upack ∷ w) = []
+reply (Ordinary tunnel x ∷ w) = []
+reply (Teardown ∷ w) = Downack ∷ []
+reply (Downack ∷ w) = []
+
+-- Accept sends upack; busy upack, unavail, teardown (manual 10.1); unobtainable upack, unknown, teardown (2.1). What a delivery sends goes by the signal handed over, the first of w.
+abbrev pub sends : Command → List Signal → List Signal
+sends Accept w = Upack ∷ []
+sends Busy w = Upack ∷ Ordinary 0 Unavail ∷ Teardown ∷ []
+sends Unobtainable w = Upack ∷ Ordinary 0 Unknown ∷ Teardown ∷ []
+sends (Send e tunnel x) w = Ordinary tunnel x ∷ []
+sends (Hang-up e) w = Teardown ∷ []
+sends (Deliver e) w = reply w
+
+-- THE VERDICT, in 01's order
+-- 17 where the other end's queue would hold more than 16
+abbrev pub fit : Verdict → ℕ → Verdict
+fit (refuse r) n = refuse r
+fit (become e) n = cond (leb n 16) (become e) (refuse BrokenRecord)
+
+-- 12, 15, 13, 14, and then 17 for a signal that the end can't take and for no room
+abbrev pub judged : Call → Command → Verdict
+judged c k =
+    fit (decide k (stateOf (actor k) c) (waiting (actor k) c) (queueTo (other (actor k)) c .count))
+    (queueTo (other (actor k)) c .count + length (sends k (waiting (actor k) c)))
+
+-- before those, for every command, 17 where either queue's count is above 16
+abbrev pub verdict : Call → Command → Verdict
+verdict c k = cond (leb (c .«to_caller» .count) 16 && leb (c .«to_callee» .count) 16) (judged c k) (refuse BrokenRecord)
+
+-- THE STEP
+-- the record with a side's end, the queue towards it and the queue from it replaced
+abbrev pub moved : Side → End → Queue → Queue → Call → Call
+moved Caller e i o c =
+    record { caller = e; callee = c .callee; «to_caller» = i; «to_callee» = o; «use_number» = c .«use_number» }
+moved Callee e i o c =
+    record { caller = c .caller; callee = e; «to_caller» = o; «to_callee» = i; «use_number» = c .«use_number» }
+
+-- A delivery takes the head out of the queue towards the acting end.
+abbrev pub pops : Command → Queue → Queue
+pops Accept q = q
+pops Busy q = q
+pops Unobtainable q = q
+pops (Send e tunnel x) q = q
+pops (Hang-up e) q = q
+pops (Deliver e) q = pop q
+
+-- A delivery answers with the signal handed over. (With nothing waiting it was refused before.)
+abbrev pub hands : Command → List Signal → Answer
+hands Accept w = Accepted
+hands Busy w = Accepted
+hands Unobtainable w = Accepted
+hands (Send e tunnel x) w = Accepted
+hands (Hang-up e) w = Accepted
+hands (Deliver e) [] = Accepted
+hands (Deliver e) (x ∷ w) = Delivered x
+
+-- A refusal leaves the record as it was.
+abbrev pub refusing : Call → Refusal → Step
+refusing c r = record { answer = Refused r; call = c }
+
+abbrev pub outcome : Call → Command → Verdict → Step
+outcome c k (refuse r) = refusing c r
+outcome c k (become e) =
+    record {
+      answer = hands k (waiting (actor k) c);
+      call =
+          moved (actor k) e (pops k (queueTo (actor k) c))
+          (pushes (queueTo (other (actor k)) c) (sends k (waiting (actor k) c))) c;
+    }
+
+-- A STEP OF A RECORD: the answer, and the record after it
+abbrev pub step : Call → Command → Step
+step c k = outcome c k (verdict c k)
+
+-- the step of a record whose counts are at most 16
+abbrev pub acted : Call → Command → Step
+acted c k = outcome c k (judged c k)
+
+-- the number of 01 that an answer is; 0 for what is accepted
+abbrev pub numberIn : Answer → ℕ
+numberIn Accepted = 0
+numberIn (Delivered x) = 0
+numberIn (Refused r) = numberOf r
+
+-- PLACING
+-- The use number is stepped by one; 65,535 is followed by 0.
+abbrev pub nextUse : ℕ → ℕ
+nextUse n = (n + 1) % 65536
+
+-- A record in which nothing waits.
+abbrev pub quiet : State → State → ℕ → Call
+quiet a b n =
+    record {
+      caller = record { state = a };
+      callee = record { state = b };
+      «to_caller» = emptyQueue;
+      «to_callee» = emptyQueue;
+      «use_number» = n;
+    }
+
+-- Placed: the caller requesting and the callee waiting, both queues empty, and the use number stepped. Nothing else of what the record held before is left.
+abbrev pub placed : Call → Call
+placed c = quiet Requesting Waiting (nextUse (c .«use_number»))
+
+-- A cleared record: ends idle, queues empty, use number 0.
+abbrev pub cleared : Call
+cleared = quiet Idle Idle 0

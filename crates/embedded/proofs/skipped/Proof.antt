@@ -1,0 +1,60 @@
+-- `embedded::skipped` meets its contract. Assumes nothing.
+use Rattle.typeset.proofs.Bools.{passed, failed}
+use mathlib.Core.Path.{sym, _∙_}
+use borrow.Author.Tests.{eq-eqb, ne-eqb}
+use mathlib.Core.Bool.{and-false}
+use Rattle.embedded.specs.Embedded.{coded, skipped}
+use Rattle.embedded.proofs.Digits.{no-code}
+use borrow.Author.Needs.{needs}
+use Rattle.embedded.proofs.skipped.Statement.{statement}
+use Rattle.embedded.proofs.skipped.Tie as tie
+
+returns : tie.Need-returns
+unfolding skipped
+returns c = rw (no-code _ (c .if1 .taken))
+
+shared-slice-read-if2 : tie.Need-shared-slice-read-if2
+shared-slice-read-if2 c = search needs
+
+returns-2 : tie.Need-returns-2
+unfolding skipped coded
+returns-2 c = rw (ne-eqb _ 42 (c .if2 .taken))
+
+shared-slice-read-digit : tie.Need-shared-slice-read-digit
+shared-slice-read-digit c = search needs
+
+digit-requires : tie.Need-digit-requires
+digit-requires c κs = search needs
+
+returns-3 : tie.Need-returns-3
+unfolding skipped coded
+returns-3 c = rw (eq-eqb _ 42 (c .before .before .before .if2 .left), failed (c .before .digit .ensures) (c .if3 .taken))
+
+shared-slice-read-digit-2 : tie.Need-shared-slice-read-digit-2
+shared-slice-read-digit-2 c = search needs
+
+digit-requires-2 : tie.Need-digit-requires-2
+digit-requires-2 c κs = search needs
+
+returns-4 : tie.Need-returns-4
+unfolding skipped coded
+returns-4 c = rw (eq-eqb _ 42 (c .before .before .before .before .before .before .if2 .left), passed (c .before .before .before .before .digit .ensures) (c .before .before .before .if3 .left), failed (c .before .digit2 .ensures) (c .if4 .taken))
+
+returns-5 : tie.Need-returns-5
+unfolding skipped coded
+returns-5 c = rw (eq-eqb _ 42 (c .before .before .before .before .before .before .if2 .left), passed (c .before .before .before .before .digit .ensures) (c .before .before .before .if3 .left), passed (c .before .digit2 .ensures) (c .if4 .left))
+
+pub skipped-spec : {M : Type 1} → statement M
+skipped-spec =
+    tie.close
+    (tie.spec
+    returns
+    shared-slice-read-if2
+    returns-2
+    shared-slice-read-digit
+    digit-requires
+    returns-3
+    shared-slice-read-digit-2
+    digit-requires-2
+    returns-4
+    returns-5)

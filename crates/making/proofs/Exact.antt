@@ -1,0 +1,31 @@
+-- Any two results that a contract of this crate allows are equal: read off the contracts themselves, as the functions in src/ state them.
+-- Assumes nothing.
+use mathlib.Core.Path.{_≡_, sym, _∙_}
+use mathlib.Core.List.{List}
+use Prim.Native.Nat.{ℕ}
+use Rattle.plan.specs.declared.Plan.{Plan}
+use Rattle.setup.specs.declared.Setup.{Setup}
+use Rattle.making.specs.declared.Maker.{Maker}
+use Rattle.making.specs.declared.Answer.{Answer}
+use contract.Lifetimes.{Lfts}
+use denote.Ref.{RefT}
+use denote.Triple.Clauses.{AtExit}
+use borrow.Fn.Kinds.{endedOf}
+use Rattle.making.proofs.new_setup.Reads as new-setup
+use Rattle.making.proofs.new_setup.Kinds as new-setup-kinds
+use Rattle.making.proofs.continued_setup.Reads as continued-setup
+use Rattle.making.proofs.continued_setup.Kinds as continued-setup-kinds
+use Rattle.making.proofs.reversed_setup.Reads as reversed-setup
+use Rattle.making.proofs.reversed_setup.Kinds as reversed-setup-kinds
+
+pub new-setup-exact : (κs : Lfts 1) (plan : Plan) (maker : Maker) (string : RefT (List ℕ)) (target : ℕ) (end : AtExit (endedOf 1 new-setup-kinds.ps new-setup-kinds.r) κs) (r s : Answer)
+    → new-setup.Post κs (plan, (maker, (string, (target, tt)))) r end → new-setup.Post κs (plan, (maker, (string, (target, tt)))) s end → r ≡ s
+new-setup-exact κs plan maker string target end r s p q = p ∙ sym q
+
+pub continued-setup-exact : (κs : Lfts 1) (plan : Plan) (maker : Maker) (setup : Setup) (source : ℕ) (string : RefT (List ℕ)) (target : ℕ) (end : AtExit (endedOf 1 continued-setup-kinds.ps continued-setup-kinds.r) κs) (r s : Answer)
+    → continued-setup.Post κs (plan, (maker, (setup, (source, (string, (target, tt)))))) r end → continued-setup.Post κs (plan, (maker, (setup, (source, (string, (target, tt)))))) s end → r ≡ s
+continued-setup-exact κs plan maker setup source string target end r s p q = p ∙ sym q
+
+pub reversed-setup-exact : (κs : Lfts 1) (plan : Plan) (maker : Maker) (setup : Setup) (source : ℕ) (string : RefT (List ℕ)) (target : ℕ) (end : AtExit (endedOf 1 reversed-setup-kinds.ps reversed-setup-kinds.r) κs) (r s : Answer)
+    → reversed-setup.Post κs (plan, (maker, (setup, (source, (string, (target, tt)))))) r end → reversed-setup.Post κs (plan, (maker, (setup, (source, (string, (target, tt)))))) s end → r ≡ s
+reversed-setup-exact κs plan maker setup source string target end r s p q = p ∙ sym q

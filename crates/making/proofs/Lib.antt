@@ -1,0 +1,5 @@
+pub mod Outcomes
+pub mod WellFormed
+pub mod Exact
+pub mod Manual
+pub mod Numbered

@@ -1,0 +1,199 @@
+-- `making::reversed_outcome` meets its contract: the tests one by one. Assumes nothing.
+use Rattle.typeset.proofs.Bools.{passed, failed}
+use Rattle.making.specs.Making.{reversedOutcome}
+use borrow.Author.Needs.{needs}
+use Rattle.making.proofs.reversed_outcome.Statement.{statement}
+use Rattle.making.proofs.reversed_outcome.Tie as tie
+
+box-address-requires : tie.Need-box-address-requires
+box-address-requires c κs = search needs
+
+turned-requires : tie.Need-turned-requires
+turned-requires c κs = search needs
+
+sound-requires : tie.Need-sound-requires
+sound-requires c κs = search needs
+
+returns : tie.Need-returns
+unfolding reversedOutcome
+returns c =
+    rw (
+      ← c .before .before .before .box-address .ensures,
+      ← c .before .before .turned .ensures,
+      failed (c .before .sound .ensures) (c .if1 .taken),
+    )
+
+type-exists-requires : tie.Need-type-exists-requires
+type-exists-requires c κs = search needs
+
+returns-2 : tie.Need-returns-2
+unfolding reversedOutcome
+returns-2 c =
+    rw (
+      ← c .before .before .before .before .before .box-address .ensures,
+      ← c .before .before .before .before .turned .ensures,
+      passed (c .before .before .before .sound .ensures) (c .before .before .if1 .left),
+      failed (c .before .type-exists .ensures) (c .if2 .taken),
+    )
+
+makes-more-requires : tie.Need-makes-more-requires
+makes-more-requires c κs = search needs
+
+returns-3 : tie.Need-returns-3
+unfolding reversedOutcome
+returns-3 c =
+    rw (
+      ← c .before .before .before .before .before .before .before .box-address .ensures,
+      ← c .before .before .before .before .before .before .turned .ensures,
+      passed (c .before .before .before .before .before .sound .ensures) (c .before .before .before .before .if1 .left),
+      passed (c .before .before .before .type-exists .ensures) (c .before .before .if2 .left),
+      failed (c .before .makes-more .ensures) (c .if3 .taken),
+    )
+
+address-held-requires : tie.Need-address-held-requires
+address-held-requires c κs = search needs
+
+returns-4 : tie.Need-returns-4
+unfolding reversedOutcome
+returns-4 c =
+    rw (
+      ← c .before .before .before .before .before .before .before .before .before .box-address .ensures,
+      ← c .before .before .before .before .before .before .before .before .turned .ensures,
+      passed (c .before .before .before .before .before .before .before .sound .ensures) (c .before .before .before .before .before .before .if1 .left),
+      passed (c .before .before .before .before .before .type-exists .ensures) (c .before .before .before .before .if2 .left),
+      passed (c .before .before .before .makes-more .ensures) (c .before .before .if3 .left),
+      failed (c .before .address-held .ensures) (c .if4 .taken),
+    )
+
+reversible-type-requires : tie.Need-reversible-type-requires
+reversible-type-requires c κs = search needs
+
+returns-5 : tie.Need-returns-5
+unfolding reversedOutcome
+returns-5 c =
+    rw (
+      ← c .before .before .before .before .before .before .before .before .before .before .before .box-address .ensures,
+      ← c .before .before .before .before .before .before .before .before .before .before .turned .ensures,
+      passed (c .before .before .before .before .before .before .before .before .before .sound .ensures) (c .before .before .before .before .before .before .before .before .if1 .left),
+      passed (c .before .before .before .before .before .before .before .type-exists .ensures) (c .before .before .before .before .before .before .if2 .left),
+      passed (c .before .before .before .before .before .makes-more .ensures) (c .before .before .before .before .if3 .left),
+      passed (c .before .before .before .address-held .ensures) (c .before .before .if4 .left),
+      failed (c .before .reversible-type .ensures) (c .if5 .taken),
+    )
+
+well-formed-requires : tie.Need-well-formed-requires
+well-formed-requires c κs = search needs
+
+returns-6 : tie.Need-returns-6
+unfolding reversedOutcome
+returns-6 c =
+    rw (
+      ← c .before .before .before .before .before .before .before .before .before .before .before .before .before .box-address .ensures,
+      ← c .before .before .before .before .before .before .before .before .before .before .before .before .turned .ensures,
+      passed (c .before .before .before .before .before .before .before .before .before .before .before .sound .ensures) (c .before .before .before .before .before .before .before .before .before .before .if1 .left),
+      passed (c .before .before .before .before .before .before .before .before .before .type-exists .ensures) (c .before .before .before .before .before .before .before .before .if2 .left),
+      passed (c .before .before .before .before .before .before .before .makes-more .ensures) (c .before .before .before .before .before .before .if3 .left),
+      passed (c .before .before .before .before .before .address-held .ensures) (c .before .before .before .before .if4 .left),
+      passed (c .before .before .before .reversible-type .ensures) (c .before .before .if5 .left),
+      failed (c .before .well-formed .ensures) (c .if6 .taken),
+    )
+
+legal-string-requires : tie.Need-legal-string-requires
+legal-string-requires c κs = search needs
+
+returns-7 : tie.Need-returns-7
+unfolding reversedOutcome
+returns-7 c =
+    rw (
+      ← c .before .before .before .before .before .before .before .before .before .before .before .before .before .before .before .box-address .ensures,
+      ← c .before .before .before .before .before .before .before .before .before .before .before .before .before .before .turned .ensures,
+      passed (c .before .before .before .before .before .before .before .before .before .before .before .before .before .sound .ensures) (c .before .before .before .before .before .before .before .before .before .before .before .before .if1 .left),
+      passed (c .before .before .before .before .before .before .before .before .before .before .before .type-exists .ensures) (c .before .before .before .before .before .before .before .before .before .before .if2 .left),
+      passed (c .before .before .before .before .before .before .before .before .before .makes-more .ensures) (c .before .before .before .before .before .before .before .before .if3 .left),
+      passed (c .before .before .before .before .before .before .before .address-held .ensures) (c .before .before .before .before .before .before .if4 .left),
+      passed (c .before .before .before .before .before .reversible-type .ensures) (c .before .before .before .before .if5 .left),
+      passed (c .before .before .before .well-formed .ensures) (c .before .before .if6 .left),
+      failed (c .before .legal-string .ensures) (c .if7 .taken),
+    )
+
+not-own-requires : tie.Need-not-own-requires
+not-own-requires c κs = search needs
+
+returns-8 : tie.Need-returns-8
+unfolding reversedOutcome
+returns-8 c =
+    rw (
+      ← c .before .before .before .before .before .before .before .before .before .before .before .before .before .before .before .before .before .box-address .ensures,
+      ← c .before .before .before .before .before .before .before .before .before .before .before .before .before .before .before .before .turned .ensures,
+      passed (c .before .before .before .before .before .before .before .before .before .before .before .before .before .before .before .sound .ensures) (c .before .before .before .before .before .before .before .before .before .before .before .before .before .before .if1 .left),
+      passed (c .before .before .before .before .before .before .before .before .before .before .before .before .before .type-exists .ensures) (c .before .before .before .before .before .before .before .before .before .before .before .before .if2 .left),
+      passed (c .before .before .before .before .before .before .before .before .before .before .before .makes-more .ensures) (c .before .before .before .before .before .before .before .before .before .before .if3 .left),
+      passed (c .before .before .before .before .before .before .before .before .before .address-held .ensures) (c .before .before .before .before .before .before .before .before .if4 .left),
+      passed (c .before .before .before .before .before .before .before .reversible-type .ensures) (c .before .before .before .before .before .before .if5 .left),
+      passed (c .before .before .before .before .before .well-formed .ensures) (c .before .before .before .before .if6 .left),
+      passed (c .before .before .before .legal-string .ensures) (c .before .before .if7 .left),
+      failed (c .before .not-own .ensures) (c .if8 .taken),
+    )
+
+both-legal-requires : tie.Need-both-legal-requires
+both-legal-requires c κs = search needs
+
+returns-9 : tie.Need-returns-9
+unfolding reversedOutcome
+returns-9 c =
+    rw (
+      ← c .before .before .before .before .before .before .before .before .before .before .before .before .before .before .before .before .before .before .before .box-address .ensures,
+      ← c .before .before .before .before .before .before .before .before .before .before .before .before .before .before .before .before .before .before .turned .ensures,
+      passed (c .before .before .before .before .before .before .before .before .before .before .before .before .before .before .before .before .before .sound .ensures) (c .before .before .before .before .before .before .before .before .before .before .before .before .before .before .before .before .if1 .left),
+      passed (c .before .before .before .before .before .before .before .before .before .before .before .before .before .before .before .type-exists .ensures) (c .before .before .before .before .before .before .before .before .before .before .before .before .before .before .if2 .left),
+      passed (c .before .before .before .before .before .before .before .before .before .before .before .before .before .makes-more .ensures) (c .before .before .before .before .before .before .before .before .before .before .before .before .if3 .left),
+      passed (c .before .before .before .before .before .before .before .before .before .before .before .address-held .ensures) (c .before .before .before .before .before .before .before .before .before .before .if4 .left),
+      passed (c .before .before .before .before .before .before .before .before .before .reversible-type .ensures) (c .before .before .before .before .before .before .before .before .if5 .left),
+      passed (c .before .before .before .before .before .before .before .well-formed .ensures) (c .before .before .before .before .before .before .if6 .left),
+      passed (c .before .before .before .before .before .legal-string .ensures) (c .before .before .before .before .if7 .left),
+      passed (c .before .before .before .not-own .ensures) (c .before .before .if8 .left),
+      failed (c .before .both-legal .ensures) (c .if9 .taken),
+    )
+
+returns-10 : tie.Need-returns-10
+unfolding reversedOutcome
+returns-10 c =
+    rw (
+      ← c .before .before .before .before .before .before .before .before .before .before .before .before .before .before .before .before .before .before .before .box-address .ensures,
+      ← c .before .before .before .before .before .before .before .before .before .before .before .before .before .before .before .before .before .before .turned .ensures,
+      passed (c .before .before .before .before .before .before .before .before .before .before .before .before .before .before .before .before .before .sound .ensures) (c .before .before .before .before .before .before .before .before .before .before .before .before .before .before .before .before .if1 .left),
+      passed (c .before .before .before .before .before .before .before .before .before .before .before .before .before .before .before .type-exists .ensures) (c .before .before .before .before .before .before .before .before .before .before .before .before .before .before .if2 .left),
+      passed (c .before .before .before .before .before .before .before .before .before .before .before .before .before .makes-more .ensures) (c .before .before .before .before .before .before .before .before .before .before .before .before .if3 .left),
+      passed (c .before .before .before .before .before .before .before .before .before .before .before .address-held .ensures) (c .before .before .before .before .before .before .before .before .before .before .if4 .left),
+      passed (c .before .before .before .before .before .before .before .before .before .reversible-type .ensures) (c .before .before .before .before .before .before .before .before .if5 .left),
+      passed (c .before .before .before .before .before .before .before .well-formed .ensures) (c .before .before .before .before .before .before .if6 .left),
+      passed (c .before .before .before .before .before .legal-string .ensures) (c .before .before .before .before .if7 .left),
+      passed (c .before .before .before .not-own .ensures) (c .before .before .if8 .left),
+      passed (c .before .both-legal .ensures) (c .if9 .left),
+    )
+
+pub reversed-outcome-spec : {M : Type 1} → statement M
+reversed-outcome-spec =
+    tie.close
+    (tie.spec
+    box-address-requires
+    turned-requires
+    sound-requires
+    returns
+    type-exists-requires
+    returns-2
+    makes-more-requires
+    returns-3
+    address-held-requires
+    returns-4
+    reversible-type-requires
+    returns-5
+    well-formed-requires
+    returns-6
+    legal-string-requires
+    returns-7
+    not-own-requires
+    returns-8
+    both-legal-requires
+    returns-9
+    returns-10)

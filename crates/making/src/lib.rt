@@ -1,0 +1,567 @@
+// The three ways to make a setup: new, continued and reversed.
+ghost use mathlib.Core.Path.{_≡_};
+ghost use mathlib.Core.Bool.{_&&_};
+ghost use mathlib.Core.List.{[]};
+ghost use lib.Dec.{eqb};
+ghost use lib.ListN.{take};
+ghost use Rattle.typeset.specs.Sets.{has};
+ghost use Rattle.plan.specs.Parts.{legal};
+ghost use Rattle.plan.specs.Find.{lookup};
+ghost use Rattle.zone.specs.Order.{held};
+ghost use Rattle.setup.specs.Dialling.{dialled, stringOf};
+ghost use Rattle.setup.specs.Setups.{wellFormed};
+ghost use Rattle.making.specs.Making.{boxAddress, boxType, kindOf, somebody, typeExists, makesNew, makesMore, addressHeld, orKept, stringOr, outerFor, newSetup, sourceIn, targetIn, further, continuedSetup, turned, reversedSetup, isList, notOwn, newOutcome, continuedOutcome, reversedOutcome, blankSetup, answered};
+use plan::Found;
+use plan::Plan;
+use plan::Region;
+use refusal::Refusal;
+use setup::Dialled;
+use setup::Outer;
+use setup::Placing;
+use setup::Route;
+use setup::Setup;
+use zone::Zone;
+
+// The box that makes a setup: a feature box with its type and address, a line or trunk box with the source it names, a resource box, the error box.
+pub enum Maker {
+    Feature(u8, u32),
+    Line(u32),
+    Trunk(u32),
+    Resource,
+    Error,
+}
+
+pub enum Outcome {
+    Made,
+    Refused(Refusal),
+}
+
+// A setup that was made; or a refusal, and a blank setup beside it.
+pub struct Answer {
+    pub outcome: Outcome,
+    pub setup: Setup,
+}
+
+// ---- the box that makes a setup
+
+fn box_address(maker: Maker) -> u32
+    ensures { λ r. ⌜ r ≡ boxAddress maker ⌝ }
+{
+    match maker {
+        Maker::Feature(_, a) => a,
+        Maker::Line(a) => a,
+        Maker::Trunk(a) => a,
+        Maker::Resource => 0,
+        Maker::Error => 0,
+    }
+}
+
+fn box_type(maker: Maker) -> u8
+    ensures { λ r. ⌜ r ≡ boxType maker ⌝ }
+{
+    match maker {
+        Maker::Feature(t, _) => t,
+        Maker::Line(_) => 0,
+        Maker::Trunk(_) => 0,
+        Maker::Resource => 0,
+        Maker::Error => 0,
+    }
+}
+
+// The kind of the subscriber at an address, 0 where there is none.
+fn kind_at(plan: Plan, address: u32) -> u8
+    ensures { λ r. ⌜ r ≡ kindOf plan (lookup plan address) ⌝ }
+{
+    let Found::At(i) = plan::find(plan, address) else {
+        return 0;
+    };
+    let subscribers = plan.subscribers;
+    let s = subscribers[i];
+    s.kind
+}
+
+fn in_plan(plan: Plan, address: u32) -> bool
+    ensures { λ r. ⌜ r ≡ somebody (lookup plan address) ⌝ }
+{
+    match plan::find(plan, address) {
+        Found::At(_) => true,
+        Found::Nothing => false,
+    }
+}
+
+fn of_kind(plan: Plan, address: u32, kind: u8) -> bool
+    ensures { λ r. ⌜ r ≡ eqb (kindOf plan (lookup plan address)) kind ⌝ }
+{
+    kind_at(plan, address) == kind
+}
+
+fn type_exists(plan: Plan, maker: Maker) -> bool
+    ensures { λ r. ⌜ r ≡ typeExists plan maker ⌝ }
+{
+    let types = plan.types;
+    match maker {
+        Maker::Feature(t, _) => typeset::has(types.existing, t as u32),
+        Maker::Line(_) => true,
+        Maker::Trunk(_) => true,
+        Maker::Resource => true,
+        Maker::Error => true,
+    }
+}
+
+fn makes_new(maker: Maker) -> bool
+    ensures { λ r. ⌜ r ≡ makesNew maker ⌝ }
+{
+    match maker {
+        Maker::Feature(_, _) => true,
+        Maker::Line(_) => true,
+        Maker::Trunk(_) => true,
+        Maker::Resource => false,
+        Maker::Error => false,
+    }
+}
+
+fn makes_more(maker: Maker) -> bool
+    ensures { λ r. ⌜ r ≡ makesMore maker ⌝ }
+{
+    match maker {
+        Maker::Feature(_, _) => true,
+        Maker::Line(_) => false,
+        Maker::Trunk(_) => false,
+        Maker::Resource => false,
+        Maker::Error => false,
+    }
+}
+
+fn address_held(plan: Plan, maker: Maker) -> bool
+    ensures { λ r. ⌜ r ≡ addressHeld plan maker ⌝ }
+{
+    match maker {
+        Maker::Feature(_, a) => in_plan(plan, a),
+        Maker::Line(a) => of_kind(plan, a, 1),
+        Maker::Trunk(a) => of_kind(plan, a, 2),
+        Maker::Resource => true,
+        Maker::Error => true,
+    }
+}
+
+// ---- the setup that is made
+
+fn or_kept(argument: u32, kept: u32) -> u32
+    ensures { λ r. ⌜ r ≡ orKept argument kept ⌝ }
+{
+    if argument == 0 { kept } else { argument }
+}
+
+// A string that is not empty, or else the one that is kept.
+fn string_or(string: &[u8], kept: Dialled) -> Dialled
+    ensures { λ r. ⌜ r ≡ dialled (stringOr (take 32 (now (string .entry))) (stringOf kept)) ⌝ }
+{
+    if string.len() == 0 {
+        setup::kept_string(kept)
+    } else {
+        setup::dial(string)
+    }
+}
+
+fn turned(region: Region) -> Region
+    ensures { λ r. ⌜ r ≡ turned region ⌝ }
+{
+    match region {
+        Region::Source => Region::Target,
+        Region::Target => Region::Source,
+    }
+}
+
+fn source_in(region: Region, routed: u32, opposite: u32) -> u32
+    ensures { λ r. ⌜ r ≡ sourceIn region routed opposite ⌝ }
+{
+    match region {
+        Region::Source => routed,
+        Region::Target => opposite,
+    }
+}
+
+fn target_in(region: Region, routed: u32, opposite: u32) -> u32
+    ensures { λ r. ⌜ r ≡ targetIn region routed opposite ⌝ }
+{
+    match region {
+        Region::Source => opposite,
+        Region::Target => routed,
+    }
+}
+
+fn outer_for(region: Region, at: u32) -> Outer
+    ensures { λ r. ⌜ r ≡ outerFor region at ⌝ }
+{
+    match region {
+        Region::Source => Outer::OuterAt(at),
+        Region::Target => Outer::NoOuter,
+    }
+}
+
+fn empty_list() -> Zone
+    ensures { λ r. ⌜ r ≡ held [] ⌝ }
+{
+    Zone {
+        types: [0u8; 32],
+        len: 0,
+    }
+}
+
+fn empty_string() -> Dialled
+    ensures { λ r. ⌜ r ≡ dialled [] ⌝ }
+{
+    Dialled {
+        symbols: [0u8; 32],
+        len: 0,
+    }
+}
+
+fn new_of(source: u32, string: &[u8], target: u32) -> Setup
+    ensures { λ r. ⌜ r ≡ newSetup source (take 32 (now (string .entry))) target ⌝ }
+{
+    Setup {
+        region: Region::Source,
+        source,
+        dialled: setup::dial(string),
+        target,
+        route: Route::Whole,
+        list: empty_list(),
+        placing: Placing::NoPlacing,
+        outer: Outer::OuterAt(source),
+    }
+}
+
+// What a continued and a reversed setup share.
+fn further(
+    region: Region,
+    at: u32,
+    source_arg: u32,
+    target_arg: u32,
+    kept: u32,
+    dialled: Dialled,
+    route: Route,
+    list: Zone,
+    placing: Placing,
+) -> Setup
+    ensures { λ r. ⌜ r ≡ further region at «source_arg» «target_arg» kept dialled route list placing ⌝ }
+{
+    let given = setup::routing(region, source_arg, target_arg);
+    let routed = or_kept(given, at);
+    let opposite = or_kept(setup::other(region, source_arg, target_arg), kept);
+    let source = source_in(region, routed, opposite);
+    let target = target_in(region, routed, opposite);
+    if given == 0 {
+        Setup {
+            region,
+            source,
+            dialled,
+            target,
+            route,
+            list,
+            placing,
+            outer: Outer::NoOuter,
+        }
+    } else {
+        Setup {
+            region,
+            source,
+            dialled,
+            target,
+            route: Route::Whole,
+            list: empty_list(),
+            placing: Placing::NoPlacing,
+            outer: outer_for(region, at),
+        }
+    }
+}
+
+// ---- what is refused
+
+fn is_list(route: Route) -> bool
+    ensures { λ r. ⌜ r ≡ isList route ⌝ }
+{
+    match route {
+        Route::Whole => false,
+        Route::Suffix => false,
+        Route::Listed => true,
+    }
+}
+
+// Whether a setup can be continued: it is well formed, and its route is a list.
+fn continuable(plan: Plan, s: Setup) -> bool
+    ensures { λ r. ⌜ r ≡ (wellFormed plan s && isList (s .route)) ⌝ }
+{
+    let route = s.route;
+    if !setup::well_formed(plan, s) {
+        return false;
+    }
+    is_list(route)
+}
+
+// 8: whether an argument for the routing address of the region is not the box's own address.
+fn not_own(region: Region, at: u32, source_arg: u32, target_arg: u32) -> bool
+    ensures { λ r. ⌜ r ≡ notOwn region at «source_arg» «target_arg» ⌝ }
+{
+    let given = setup::routing(region, source_arg, target_arg);
+    if given == 0 {
+        return true;
+    }
+    given != at
+}
+
+// 9: whether both address arguments are in range.
+fn both_legal(source_arg: u32, target_arg: u32) -> bool
+    ensures { λ r. ⌜ r ≡ (legal «source_arg» && legal «target_arg») ⌝ }
+{
+    if !plan::legal(source_arg) {
+        return false;
+    }
+    plan::legal(target_arg)
+}
+
+fn new_outcome(plan: Plan, maker: Maker, string: &[u8], target_arg: u32) -> Outcome
+    ensures { λ r. ⌜ r ≡ newOutcome plan maker (now (string .entry)) «target_arg» ⌝ }
+{
+    if !plan::sound(plan) {
+        return Outcome::Refused(Refusal::RuleBroken(0));
+    }
+    if !type_exists(plan, maker) {
+        return Outcome::Refused(Refusal::NoSuchType);
+    }
+    if !makes_new(maker) {
+        return Outcome::Refused(Refusal::NotForThisBox);
+    }
+    if !address_held(plan, maker) {
+        return Outcome::Refused(Refusal::WrongAddress);
+    }
+    if !setup::legal_string(string) {
+        return Outcome::Refused(Refusal::BadString);
+    }
+    if !plan::legal(target_arg) {
+        return Outcome::Refused(Refusal::AddressTooLarge);
+    }
+    Outcome::Made
+}
+
+fn continued_outcome(
+    plan: Plan,
+    maker: Maker,
+    s: Setup,
+    source_arg: u32,
+    string: &[u8],
+    target_arg: u32,
+) -> Outcome
+    ensures { λ r. ⌜ r ≡ continuedOutcome plan maker s «source_arg» (now (string .entry)) «target_arg» ⌝ }
+{
+    let region = s.region;
+    let at = box_address(maker);
+    if !plan::sound(plan) {
+        return Outcome::Refused(Refusal::RuleBroken(0));
+    }
+    if !type_exists(plan, maker) {
+        return Outcome::Refused(Refusal::NoSuchType);
+    }
+    if !makes_more(maker) {
+        return Outcome::Refused(Refusal::NotForThisBox);
+    }
+    if !address_held(plan, maker) {
+        return Outcome::Refused(Refusal::WrongAddress);
+    }
+    if !continuable(plan, s) {
+        return Outcome::Refused(Refusal::Malformed);
+    }
+    if setup::routing_address(s) != at {
+        return Outcome::Refused(Refusal::NotRoutedHere);
+    }
+    if !setup::legal_string(string) {
+        return Outcome::Refused(Refusal::BadString);
+    }
+    if !not_own(region, at, source_arg, target_arg) {
+        return Outcome::Refused(Refusal::OwnAddress);
+    }
+    if !both_legal(source_arg, target_arg) {
+        return Outcome::Refused(Refusal::AddressTooLarge);
+    }
+    Outcome::Made
+}
+
+fn reversible_type(plan: Plan, maker: Maker) -> bool
+    ensures { λ r. ⌜ r ≡ has (boxType maker) (plan .types .reversible) ⌝ }
+{
+    let types = plan.types;
+    typeset::has(types.reversible, box_type(maker) as u32)
+}
+
+fn reversed_outcome(
+    plan: Plan,
+    maker: Maker,
+    s: Setup,
+    source_arg: u32,
+    string: &[u8],
+    target_arg: u32,
+) -> Outcome
+    ensures { λ r. ⌜ r ≡ reversedOutcome plan maker s «source_arg» (now (string .entry)) «target_arg» ⌝ }
+{
+    let region = s.region;
+    let at = box_address(maker);
+    let back = turned(region);
+    if !plan::sound(plan) {
+        return Outcome::Refused(Refusal::RuleBroken(0));
+    }
+    if !type_exists(plan, maker) {
+        return Outcome::Refused(Refusal::NoSuchType);
+    }
+    if !makes_more(maker) {
+        return Outcome::Refused(Refusal::NotForThisBox);
+    }
+    if !address_held(plan, maker) {
+        return Outcome::Refused(Refusal::WrongAddress);
+    }
+    if !reversible_type(plan, maker) {
+        return Outcome::Refused(Refusal::NotReversible);
+    }
+    if !setup::well_formed(plan, s) {
+        return Outcome::Refused(Refusal::Malformed);
+    }
+    if !setup::legal_string(string) {
+        return Outcome::Refused(Refusal::BadString);
+    }
+    if !not_own(back, at, source_arg, target_arg) {
+        return Outcome::Refused(Refusal::OwnAddress);
+    }
+    if !both_legal(source_arg, target_arg) {
+        return Outcome::Refused(Refusal::AddressTooLarge);
+    }
+    Outcome::Made
+}
+
+// ---- the three ways to make a setup
+
+fn blank_setup() -> Setup
+    ensures { λ r. ⌜ r ≡ blankSetup ⌝ }
+{
+    Setup {
+        region: Region::Source,
+        source: 0,
+        dialled: empty_string(),
+        target: 0,
+        route: Route::Whole,
+        list: empty_list(),
+        placing: Placing::NoPlacing,
+        outer: Outer::NoOuter,
+    }
+}
+
+// A setup beside its outcome: a blank one beside a refusal.
+fn answered(outcome: Outcome, s: Setup) -> Answer
+    ensures { λ r. ⌜ r ≡ answered outcome s ⌝ }
+{
+    match outcome {
+        Outcome::Made => Answer {
+            outcome: Outcome::Made,
+            setup: s,
+        },
+        Outcome::Refused(r) => Answer {
+            outcome: Outcome::Refused(r),
+            setup: blank_setup(),
+        },
+    }
+}
+
+// A new setup (manual 5.4), for any plan, maker, bytes and number.
+pub fn new_setup(plan: Plan, maker: Maker, string: &[u8], target_arg: u32) -> Answer
+    ensures { λ r. ⌜ r ≡ answered (newOutcome plan maker (now (string .entry)) «target_arg») (newSetup (boxAddress maker) (now (string .entry)) «target_arg») ⌝ }
+{
+    let outcome = new_outcome(plan, maker, string, target_arg);
+    let made = new_of(box_address(maker), string, target_arg);
+    answered(outcome, made)
+}
+
+fn continued_of(at: u32, s: Setup, source_arg: u32, string: &[u8], target_arg: u32) -> Setup
+    ensures { λ r. ⌜ r ≡ continuedSetup at s «source_arg» (take 32 (now (string .entry))) «target_arg» ⌝ }
+{
+    let region = s.region;
+    let stored = s.dialled;
+    let list = s.list;
+    let kept = setup::other(region, s.source, s.target);
+    let dialled = string_or(string, stored);
+    further(
+        region,
+        at,
+        source_arg,
+        target_arg,
+        kept,
+        dialled,
+        Route::Listed,
+        setup::kept_list(list),
+        Placing::NoPlacing,
+    )
+}
+
+// A setup continued (manual 5.5), for any plan, maker, stored setup and arguments.
+pub fn continued_setup(
+    plan: Plan,
+    maker: Maker,
+    s: Setup,
+    source_arg: u32,
+    string: &[u8],
+    target_arg: u32,
+) -> Answer
+    ensures { λ r. ⌜ r ≡ answered (continuedOutcome plan maker s «source_arg» (now (string .entry)) «target_arg») (continuedSetup (boxAddress maker) s «source_arg» (now (string .entry)) «target_arg») ⌝ }
+{
+    let outcome = continued_outcome(plan, maker, s, source_arg, string, target_arg);
+    let made = continued_of(box_address(maker), s, source_arg, string, target_arg);
+    answered(outcome, made)
+}
+
+fn reversed_of(
+    kind: u8,
+    at: u32,
+    s: Setup,
+    source_arg: u32,
+    string: &[u8],
+    target_arg: u32,
+) -> Setup
+    ensures { λ r. ⌜ r ≡ reversedSetup kind at s «source_arg» (take 32 (now (string .entry))) «target_arg» ⌝ }
+{
+    let region = s.region;
+    let stored = s.dialled;
+    let back = turned(region);
+    let kept = setup::routing(back, s.source, s.target);
+    let dialled = string_or(string, stored);
+    further(
+        back,
+        at,
+        source_arg,
+        target_arg,
+        kept,
+        dialled,
+        Route::Suffix,
+        empty_list(),
+        Placing::PlacedBy(kind),
+    )
+}
+
+// A setup reversed (manual 5.6), for any plan, maker, setup once sent and arguments.
+pub fn reversed_setup(
+    plan: Plan,
+    maker: Maker,
+    s: Setup,
+    source_arg: u32,
+    string: &[u8],
+    target_arg: u32,
+) -> Answer
+    ensures { λ r. ⌜ r ≡ answered (reversedOutcome plan maker s «source_arg» (now (string .entry)) «target_arg») (reversedSetup (boxType maker) (boxAddress maker) s «source_arg» (now (string .entry)) «target_arg») ⌝ }
+{
+    let outcome = reversed_outcome(plan, maker, s, source_arg, string, target_arg);
+    let made = reversed_of(
+        box_type(maker),
+        box_address(maker),
+        s,
+        source_arg,
+        string,
+        target_arg,
+    );
+    answered(outcome, made)
+}

@@ -1,0 +1,68 @@
+-- `setup::legal_string` meets its contract. The loop's invariant: each byte passed is a symbol. Assumes nothing.
+use mathlib.Core.Path.{_≡_, sym, _∙_}
+use mathlib.Core.Bool.{true}
+use Rattle.typeset.proofs.Bools.{passed, failed}
+use Rattle.typeset.specs.Sets.{every}
+use Rattle.typeset.proofs.Below.{every-none, every-more, every-no}
+use lib.ListN.{length, getD}
+use Rattle.setup.specs.Dialling.{symbol, legalString, legalDialled}
+use borrow.Author.Tests.{le-leb, lt-leb}
+use Prim.Native.Nat.{_≤_, _-_}
+use native.Mathlib.Omega.{arith}
+use borrow.Author.Needs.{needs}
+use Rattle.setup.proofs.legal_string.Statement.{statement}
+use Rattle.setup.proofs.legal_string.Tie as tie
+
+abbrev Inv-loop : tie.InvT-loop
+Inv-loop s i₀ i = (i ≤ length s) × (every i (λ k. symbol (getD s k 0)) ≡ true)
+
+abbrev μ-loop : tie.MeasureT-loop
+μ-loop s i₀ i = length s - i
+
+returns : tie.Need-returns Inv-loop μ-loop
+unfolding legalString
+returns c = rw (lt-leb _ 32 (c .if1 .taken))
+
+loop-holds : tie.Need-loop-holds Inv-loop μ-loop
+loop-holds c = (search needs, every-none _)
+
+shared-slice-read-symbol : tie.Need-shared-slice-read-symbol Inv-loop μ-loop
+shared-slice-read-symbol c = search needs
+
+symbol-requires : tie.Need-symbol-requires Inv-loop μ-loop
+symbol-requires c κs = search needs
+
+returns-2 : tie.Need-returns-2 Inv-loop μ-loop
+unfolding legalString
+returns-2 c = rw (le-leb _ 32 (c .before .before .before .before .before .if1 .left)) (sym (every-no _ _ _ (c .before .before .before .loop-test .taken) (failed (c .before .symbol .ensures) (c .if2 .taken))))
+
+add-i : tie.Need-add-i Inv-loop μ-loop
+add-i c = search needs
+
+loop-less : tie.Need-loop-less Inv-loop μ-loop
+loop-less c = search needs
+
+loop-again : tie.Need-loop-again Inv-loop μ-loop
+loop-again c = (search needs, every-more _ _ (c .before .before .before .before .loop .inv .1) (passed (c .before .symbol .ensures) (c .if2 .left)))
+
+returns-3 : tie.Need-returns-3 Inv-loop μ-loop
+unfolding legalString
+returns-3 c =
+    let end : c .before .loop .i ≡ length (c .before .before .before .before .args .s .now) = omega arith in
+    rw (le-leb _ 32 (c .before .before .if1 .left)) (sym (rw end at (c .before .loop .inv .1)))
+
+pub legal-string-spec : {M : Type 1} → statement M
+legal-string-spec =
+    tie.close
+    (tie.spec
+    Inv-loop
+    μ-loop
+    returns
+    loop-holds
+    shared-slice-read-symbol
+    symbol-requires
+    returns-2
+    add-i
+    loop-less
+    loop-again
+    returns-3)

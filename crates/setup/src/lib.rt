@@ -1,0 +1,352 @@
+// Setups: what a box sends to place a call, and which fault one has.
+ghost use mathlib.Core.Path.{_≡_};
+ghost use Prim.Native.Nat.{min};
+ghost use lib.ListN.{take};
+ghost use Rattle.zone.specs.Order.{held};
+ghost use Rattle.zone.specs.Answer.{zoneAt};
+ghost use Rattle.setup.specs.Dialling.{symbol, legalString, padded, dialled, stringOf, legalDialled};
+ghost use Rattle.setup.specs.Setups.{routing, other, routingAddress, listOf, outerLegal, inRange, listFits, routeFits, unplaced, placedBy, placingFits, outerAbsent, outerGiven, outerFits, fault, faultless, wellFormed};
+use plan::Plan;
+use plan::Region;
+use zone::Zone;
+
+// A dialled string: the first len places, as ASCII codes. The places past len are 0 in whatever is made here.
+pub struct Dialled {
+    pub symbols: [u8; 32],
+    pub len: u8,
+}
+
+// Which part of the routing address's zone is to be visited. A list stands beside it, in the setup.
+pub enum Route {
+    Whole,
+    Suffix,
+    Listed,
+}
+
+// The type of the box that placed the call, where it is needed.
+pub enum Placing {
+    NoPlacing,
+    PlacedBy(u8),
+}
+
+// The address of the box that placed the call, where it is needed.
+pub enum Outer {
+    NoOuter,
+    OuterAt(u32),
+}
+
+pub struct Setup {
+    pub region: Region,
+    pub source: u32,
+    pub dialled: Dialled,
+    pub target: u32,
+    pub route: Route,
+    pub list: Zone,
+    pub placing: Placing,
+    pub outer: Outer,
+}
+
+// Which fault a setup has, the first in this order.
+pub enum Fault {
+    WellFormed,
+    BadAddressOrString,
+    NoRoutingAddress,
+    NoEndPart,
+    WrongPlacing,
+    WrongOuter,
+}
+
+// ---- dialled strings
+
+// Whether a byte is a digit, * or #.
+pub fn symbol(c: u8) -> bool
+    ensures { λ r. ⌜ r ≡ symbol c ⌝ }
+{
+    if c == 42 {
+        return true;
+    }
+    if c == 35 {
+        return true;
+    }
+    if c < 48 {
+        return false;
+    }
+    c <= 57
+}
+
+// Whether any bytes are a legal string.
+pub fn legal_string(s: &[u8]) -> bool
+    ensures { λ r. ⌜ r ≡ legalString (now (s .entry)) ⌝ }
+{
+    if 32 < s.len() {
+        return false;
+    }
+    let mut i: usize = 0;
+    while i < s.len() {
+        if !symbol(s[i]) {
+            return false;
+        }
+        i += 1;
+    }
+    true
+}
+
+// Whether a string in a setup is legal.
+pub fn legal_dialled(d: Dialled) -> bool
+    ensures { λ r. ⌜ r ≡ legalDialled d ⌝ }
+{
+    let symbols = d.symbols;
+    let len = d.len as usize;
+    if 32 < len {
+        return false;
+    }
+    for i in 0usize..len {
+        if !symbol(symbols[i]) {
+            return false;
+        }
+    }
+    true
+}
+
+fn at_most_32(n: usize) -> usize
+    ensures { λ r. ⌜ r ≡ min n 32 ⌝ }
+{
+    if n < 32 { n } else { 32 }
+}
+
+// The first 32 bytes, and 0 in the places that are left.
+fn filled(s: &[u8]) -> [u8; 32]
+    ensures { λ r. ⌜ r ≡ padded (take 32 (now (s .entry))) ⌝ }
+{
+    let end = at_most_32(s.len());
+    let mut places = [0u8; 32];
+    for i in 0usize..end {
+        places[i] = s[i];
+    }
+    places
+}
+
+// A string as a setup holds it, of any bytes: the first 32. It is for a caller that has tested the bytes with legal_string.
+pub fn dial(s: &[u8]) -> Dialled
+    ensures { λ r. ⌜ r ≡ dialled (take 32 (now (s .entry))) ⌝ }
+{
+    Dialled {
+        symbols: filled(s),
+        len: at_most_32(s.len()) as u8,
+    }
+}
+
+// A string as it was, with 0 past its length.
+pub fn kept_string(d: Dialled) -> Dialled
+    ensures { λ r. ⌜ r ≡ dialled (stringOf d) ⌝ }
+{
+    let symbols = d.symbols;
+    let end = at_most_32(d.len as usize);
+    dial(&symbols[..end])
+}
+
+// A list as it was, with 0 past its length.
+pub fn kept_list(z: Zone) -> Zone
+    ensures { λ r. ⌜ r ≡ held (listOf z) ⌝ }
+{
+    let types = z.types;
+    let end = at_most_32(z.len as usize);
+    Zone {
+        types: filled(&types[..end]),
+        len: end as u8,
+    }
+}
+
+// ---- which fault a setup has
+
+// Of a source and a target, the one that the region routes by.
+pub fn routing(region: Region, source: u32, target: u32) -> u32
+    ensures { λ r. ⌜ r ≡ routing region source target ⌝ }
+{
+    match region {
+        Region::Source => source,
+        Region::Target => target,
+    }
+}
+
+// And the other one.
+pub fn other(region: Region, source: u32, target: u32) -> u32
+    ensures { λ r. ⌜ r ≡ other region source target ⌝ }
+{
+    match region {
+        Region::Source => target,
+        Region::Target => source,
+    }
+}
+
+// The address whose zone a setup is routed in.
+pub fn routing_address(s: Setup) -> u32
+    ensures { λ r. ⌜ r ≡ routingAddress s ⌝ }
+{
+    let region = s.region;
+    routing(region, s.source, s.target)
+}
+
+fn outer_legal(outer: Outer) -> bool
+    ensures { λ r. ⌜ r ≡ outerLegal outer ⌝ }
+{
+    match outer {
+        Outer::NoOuter => true,
+        Outer::OuterAt(a) => plan::legal(a),
+    }
+}
+
+fn in_range(s: Setup) -> bool
+    ensures { λ r. ⌜ r ≡ inRange s ⌝ }
+{
+    let outer = s.outer;
+    let dialled = s.dialled;
+    if !plan::legal(s.source) {
+        return false;
+    }
+    if !plan::legal(s.target) {
+        return false;
+    }
+    if !outer_legal(outer) {
+        return false;
+    }
+    legal_dialled(dialled)
+}
+
+// Whether a list is an end part of a zone.
+fn list_fits(zone: Zone, list: Zone) -> bool
+    ensures { λ r. ⌜ r ≡ listFits (listOf zone) list ⌝ }
+{
+    let types = list.types;
+    let all = zone.types;
+    let n = list.len as usize;
+    let m = at_most_32(zone.len as usize);
+    if 32 < n {
+        return false;
+    }
+    if m < n {
+        return false;
+    }
+    let from = m - n;
+    for i in 0usize..n {
+        if types[i] != all[from + i] {
+            return false;
+        }
+    }
+    true
+}
+
+// Whether the route is no list, or its list is an end part of the routing address's zone.
+fn route_fits(plan: Plan, region: Region, address: u32, route: Route, list: Zone) -> bool
+    ensures { λ r. ⌜ r ≡ routeFits route (listFits (zoneAt plan region address) list) ⌝ }
+{
+    match route {
+        Route::Whole => true,
+        Route::Suffix => true,
+        Route::Listed => list_fits(zone::zone_at(plan, region, address), list),
+    }
+}
+
+fn no_placing(placing: Placing) -> bool
+    ensures { λ r. ⌜ r ≡ unplaced placing ⌝ }
+{
+    match placing {
+        Placing::NoPlacing => true,
+        Placing::PlacedBy(_) => false,
+    }
+}
+
+fn reversible_placing(reversible: u32, placing: Placing) -> bool
+    ensures { λ r. ⌜ r ≡ placedBy reversible placing ⌝ }
+{
+    match placing {
+        Placing::NoPlacing => false,
+        Placing::PlacedBy(t) => typeset::has(reversible, t as u32),
+    }
+}
+
+fn placing_fits(reversible: u32, route: Route, placing: Placing) -> bool
+    ensures { λ r. ⌜ r ≡ placingFits reversible route placing ⌝ }
+{
+    match route {
+        Route::Whole => no_placing(placing),
+        Route::Suffix => reversible_placing(reversible, placing),
+        Route::Listed => no_placing(placing),
+    }
+}
+
+fn no_outer(outer: Outer) -> bool
+    ensures { λ r. ⌜ r ≡ outerAbsent outer ⌝ }
+{
+    match outer {
+        Outer::NoOuter => true,
+        Outer::OuterAt(_) => false,
+    }
+}
+
+fn outer_given(outer: Outer) -> bool
+    ensures { λ r. ⌜ r ≡ outerGiven outer ⌝ }
+{
+    match outer {
+        Outer::NoOuter => true,
+        Outer::OuterAt(a) => a != 0,
+    }
+}
+
+fn outer_fits(region: Region, outer: Outer) -> bool
+    ensures { λ r. ⌜ r ≡ outerFits region outer ⌝ }
+{
+    match region {
+        Region::Source => outer_given(outer),
+        Region::Target => no_outer(outer),
+    }
+}
+
+// The first fault of a setup, for a caller that has tested the plan; total in any plan, as zone_at is.
+pub fn fault_of(plan: Plan, s: Setup) -> Fault
+    ensures { λ r. ⌜ r ≡ fault plan s ⌝ }
+{
+    let region = s.region;
+    let route = s.route;
+    let list = s.list;
+    let placing = s.placing;
+    let outer = s.outer;
+    let types = plan.types;
+    if !in_range(s) {
+        return Fault::BadAddressOrString;
+    }
+    let address = routing_address(s);
+    if address == 0 {
+        return Fault::NoRoutingAddress;
+    }
+    if !route_fits(plan, region, address, route, list) {
+        return Fault::NoEndPart;
+    }
+    if !placing_fits(types.reversible, route, placing) {
+        return Fault::WrongPlacing;
+    }
+    if !outer_fits(region, outer) {
+        return Fault::WrongOuter;
+    }
+    Fault::WellFormed
+}
+
+fn faultless(f: Fault) -> bool
+    ensures { λ r. ⌜ r ≡ faultless f ⌝ }
+{
+    match f {
+        Fault::WellFormed => true,
+        Fault::BadAddressOrString => false,
+        Fault::NoRoutingAddress => false,
+        Fault::NoEndPart => false,
+        Fault::WrongPlacing => false,
+        Fault::WrongOuter => false,
+    }
+}
+
+// Whether a setup is well formed, for a caller that has tested the plan; total in any plan.
+pub fn well_formed(plan: Plan, s: Setup) -> bool
+    ensures { λ r. ⌜ r ≡ wellFormed plan s ⌝ }
+{
+    faultless(fault_of(plan, s))
+}
