@@ -6,3 +6,4 @@ pub mod Back
 pub mod Theorems
 pub mod Complete
 pub mod Place
+pub mod Cut

@@ -79,7 +79,7 @@ module _ (n stage : ℕ) (p : Plan) (at : ℕ) (left : List ℕ) where
 
 -- ---- a part of a body that is long enough
 
-drop-take : {A : Type 0} (k n : ℕ) (l : List A) → drop k (take n l) ≡ take (n - k) (drop k l)
+pub drop-take : {A : Type 0} (k n : ℕ) (l : List A) → drop k (take n l) ≡ take (n - k) (drop k l)
 drop-take zero n l = let e : n - 0 ≡ n = omega arith in rw e
 drop-take (suc k) zero l = let e : 0 - suc k ≡ 0 = omega arith in rw e
 drop-take (suc k) (suc n) [] = sym (none (suc n - suc k))
