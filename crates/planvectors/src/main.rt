@@ -217,6 +217,17 @@ fn pairs(file: &mut [u8]) {
         4,
     );
     changed(b"another tag and a body cut short", file, 20, 4, 9, 21, 4);
+    changed_two(
+        b"another tag and a rule broken",
+        file,
+        398,
+        4,
+        9,
+        11,
+        1,
+        21,
+        4,
+    );
 }
 
 fn later_pairs(file: &mut [u8]) {
@@ -239,6 +250,40 @@ fn later_pairs(file: &mut [u8]) {
         20,
         289,
     );
+}
+
+fn last_pairs(file: &mut [u8]) {
+    changed_two(
+        b"a length never had and a rule broken",
+        file,
+        398,
+        6,
+        21,
+        11,
+        1,
+        22,
+        4,
+    );
+    changed_two(
+        b"a subscriber's length never had and a rule broken",
+        file,
+        398,
+        291,
+        14,
+        292,
+        9,
+        22,
+        289,
+    );
+}
+
+// Lengths around those that a subscriber has: 13, 15, 17, 19 and 21.
+fn subscriber_lengths(file: &mut [u8]) {
+    changed(b"a subscriber of 11 bytes", file, 398, 291, 11, 22, 289);
+    changed(b"a subscriber of 12 bytes", file, 398, 291, 12, 22, 289);
+    changed(b"a subscriber of 14 bytes", file, 398, 291, 14, 22, 289);
+    changed(b"a subscriber of 22 bytes", file, 398, 291, 22, 22, 289);
+    changed(b"a subscriber of 23 bytes", file, 398, 291, 23, 22, 289);
 }
 
 // A rule broken at each tag.
@@ -292,6 +337,8 @@ fn subscriber_rules(file: &mut [u8]) {
 fn faults(file: &mut [u8]) {
     pairs(file);
     later_pairs(file);
+    last_pairs(file);
+    subscriber_lengths(file);
     rules(file);
     subscriber_rules(file);
 }
@@ -494,6 +541,34 @@ fn one_more(room: &mut [u8]) {
     );
 }
 
+// A 257th subscriber that is whole, and that would be sound.
+fn whole_one_more(room: &mut [u8]) {
+    put(room, 4388, 4);
+    put(room, 4391, 1);
+    put(room, 4392, 1);
+    put(room, 4401, 127);
+    changed(
+        b"257 subscribers, all of them whole",
+        room,
+        4404,
+        4385,
+        5,
+        24,
+        4385,
+    );
+    changed_two(
+        b"257 subscribers, a rule broken",
+        room,
+        4404,
+        4385,
+        5,
+        4388,
+        9,
+        24,
+        4385,
+    );
+}
+
 fn empty(room: &mut [u8]) {
     let nobody = nobody();
     let plan = bare([nobody; 256], 0);
@@ -515,5 +590,6 @@ fn main() {
     teaching_file(&mut room);
     full(&mut room);
     one_more(&mut room);
+    whole_one_more(&mut room);
     empty(&mut room);
 }
