@@ -81,7 +81,8 @@ joined-some p k h =
     ∙ ap (λ (l : List ℕ). headFields (p .types) (p .«source_order») (p .«target_order») ++ l) (joined-subscribers (take k (take (p .count) (p .subscribers))))
 
 -- all of them
-joined-all : (p : Plan) (k : ℕ) → length (take (p .count) (p .subscribers)) < k → joined (take (suc (suc (suc (suc k)))) (fieldsOf p)) ≡ bytesOf p
+-- the fields of a plan's file, one after the other, are its bytes
+pub joined-all : (p : Plan) (k : ℕ) → length (take (p .count) (p .subscribers)) < k → joined (take (suc (suc (suc (suc k)))) (fieldsOf p)) ≡ bytesOf p
 unfolding fieldsOf bytesOf
 joined-all p k h =
     let size : length (map fieldOf (take (p .count) (p .subscribers)) ++ (endField ∷ [])) ≤ k =

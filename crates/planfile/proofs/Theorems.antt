@@ -1,4 +1,4 @@
--- Both round trips, and which bytes are accepted; of the definitions, and of the functions `planread::read` and `planwrite::write` by their contracts. Assumes nothing.
+-- Both round trips, and which bytes are accepted, of the definitions that the contracts of `planread::read` and `planwrite::write` equate their results with. Assumes nothing.
 use mathlib.Core.Path.{_≡_, sym, ap, _∙_}
 use mathlib.Core.Bool.{true}
 use mathlib.Core.List.{List, [], _∷_}
@@ -47,7 +47,7 @@ one-plan p q 𝓣 𝓤 𝓢 𝓡 e =
     let same : accepted p ≡ accepted q = sym (there-and-back p 𝓣 𝓢) ∙ ap readOf e ∙ there-and-back q 𝓤 𝓡 in
     λ i. same i .plan
 
--- ---- of the functions: what writing leaves in the room is read as the plan that was written; and what was read is written as the bytes that were read
+-- ---- of what the functions leave: what writing leaves in the room is read as the plan that was written; and what was read is written as the bytes that were read
 module _ (p : Plan) (𝓢 : sound p ≡ true) (room : List ℕ) (fits : length (bytesOf p) ≤ length room) where
   pub write-answers : written p room ≡ Bytes (length (bytesOf p))
   unfolding written
