@@ -21,7 +21,7 @@ fn carries(rows: [u32; 32], row: u32, b: u32) -> bool
 fn closed(rows: [u32; 32], row: u32) -> bool
     ensures { λ r. ⌜ r ≡ closed rows row ⌝ }
 {
-    for b in 0u32..32u32 {
+    for b in 0..32u32 {
         if !carries(rows, row, b) {
             return false;
         }
