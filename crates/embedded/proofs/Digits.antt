@@ -1,6 +1,6 @@
 -- Digits and the numbers that they write, as the loop of `number` goes through them; and a feature code at the front of a string. Assumes nothing.
 use mathlib.Core.Path.{_≡_, refl, sym, ap, _∙_}
-use mathlib.Core.Bool.{Bool, true, false, _&&_, and-false}
+use mathlib.Core.Bool.{Bool, true, false, not, _&&_, and-false, false≢true}
 use mathlib.Core.List.{List, [], _∷_}
 use Prim.Native.Nat.{ℕ, zero, suc, _+_, _-_, _*_, _≤_, _<_, suc-le-suc}
 use native.Mathlib.Nat.{not-suc-le-zero, le-of-suc-le-suc}
@@ -11,10 +11,12 @@ use lib.ListN.{length, getD, take, drop, length-drop, List·getD-eq-default}
 use lib.Seq.{drop-cons, drop-length, take-all}
 use borrow.Author.Tests.{leb-true}
 use Rattle.typeset.specs.Sets.{every}
-use Rattle.typeset.proofs.Bools.{yes-or-no, clash, and-left, and-right}
+use Rattle.typeset.proofs.Bools.{yes-or-no, clash, and-left, and-right, not-true}
 use mathlib.Core.Logic.{⊎-elim}
 use Rattle.typeset.proofs.Below.{every-at}
-use Rattle.embedded.specs.Embedded.{digit, allDigits, numberFrom, coded, skipped}
+use Rattle.embedded.specs.declared.Dials.{Dials}
+use Rattle.embedded.specs.declared.Dials.the-variants.{Nobody, Address}
+use Rattle.embedded.specs.Embedded.{digit, allDigits, numberFrom, coded, skipped, afterCode, writesAddress, embedded}
 
 pub digit-from : (c : ℕ) → digit c ≡ true → 48 ≤ c
 unfolding digit
@@ -81,3 +83,49 @@ code-inside l =
 -- the part from k on
 pub part-from : (k : ℕ) (l : List ℕ) → take (length l - k) (drop k l) ≡ drop k l
 part-from k l = let whole : length (drop k l) ≤ length l - k = simp length-drop (omega arith) in take-all (length l - k) (drop k l) whole
+
+-- ---- what is embedded is an address: 1 to 999,999,999
+
+number-below : (n i : ℕ) (l : List ℕ) → n < ten i → ((k : ℕ) → k < length l → digit (getD l k 0) ≡ true) → numberFrom n l < ten (i + length l)
+unfolding numberFrom
+number-below n i [] h d = let same : i + 0 ≡ i = omega arith in rw same h
+number-below n i (c ∷ cs) h d =
+    let same : i + suc (length cs) ≡ i + 1 + length cs = omega arith in
+    let first : digit c ≡ true = d 0 (omega arith) in
+    rw same (number-below (n * 10 + (c - 48)) (i + 1) cs (ten-next n i c h first) (λ k l. d (suc k) (omega arith)))
+
+writes-digits : (l : List ℕ) → writesAddress l ≡ true → (length l ≤ 9) × (allDigits l ≡ true) × (eqb (numberFrom 0 l) 0 ≡ false)
+unfolding writesAddress
+writes-digits l e =
+    let three = and-left (leb 1 (length l) && leb (length l) 9 && allDigits l) (not (eqb (numberFrom 0 l) 0)) e in
+    let two = and-left (leb 1 (length l) && leb (length l) 9) (allDigits l) three in (
+      leb-true (length l) 9 (and-right (leb 1 (length l)) (leb (length l) 9) two),
+      and-right (leb 1 (length l) && leb (length l) 9) (allDigits l) three,
+      not-true (eqb (numberFrom 0 l) 0) (and-right (leb 1 (length l) && leb (length l) 9 && allDigits l) (not (eqb (numberFrom 0 l) 0)) e),
+    )
+
+written-legal : (l : List ℕ) → writesAddress l ≡ true → (numberFrom 0 l ≤ 999999999) × (eqb (numberFrom 0 l) 0 ≡ false)
+unfolding ten
+written-legal l e =
+    let w = writes-digits l e in
+    let low = number-below 0 0 l (omega arith) (λ k h. digit-at l k (w .1) h) in
+    let nine = ten-less (0 + length l) 9 (omega (arith, w .0)) in
+    (omega (arith, low, nine), w .2)
+
+abbrev somebody : Dials → Bool
+somebody Nobody = false
+somebody (Address a) = true
+
+abbrev whom : Dials → ℕ
+whom Nobody = 0
+whom (Address a) = a
+
+pub embedded-legal : (l : List ℕ) (a : ℕ) → embedded l ≡ Address a → (a ≤ 999999999) × (eqb a 0 ≡ false)
+unfolding embedded
+embedded-legal l a e =
+    ⊎-elim
+    (λ (w : writesAddress (afterCode l) ≡ true).
+    let same : numberFrom 0 (afterCode l) ≡ a = ap whom (rw w at e) in
+    rw (← same) (written-legal (afterCode l) w))
+    (λ (w : writesAddress (afterCode l) ≡ false). absurd (false≢true (ap somebody (rw w at e))))
+    (yes-or-no (writesAddress (afterCode l)))

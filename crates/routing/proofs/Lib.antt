@@ -1,3 +1,6 @@
 pub mod Parts
 pub mod Zoned
 pub mod Chosen
+pub mod Boxes
+pub mod Properties
+pub mod Exact

@@ -2,3 +2,4 @@ pub mod Interface
 pub mod Steps
 pub mod Routing
 pub mod Places
+pub mod Properties

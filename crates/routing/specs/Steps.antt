@@ -2,7 +2,7 @@
 use Prim.Native.Nat.{ℕ, _+_, _-_}
 use mathlib.Core.Bool.{Bool, true, false, cond}
 use mathlib.Core.List.{List, [], _∷_}
-use lib.Dec.{eqb}
+use lib.Dec.{eqb, ltb}
 use lib.ListN.{length, getD, drop}
 use Rattle.typeset.specs.Sets.{least}
 use Rattle.plan.specs.declared.Region.{Region}
@@ -41,9 +41,13 @@ target1 out = cond (eqb (out .target) 0) (dials (embedded (stringOf (out .dialle
 unfoldable pub placeOf : ℕ → List ℕ → ℕ
 placeOf t zone = least (length zone) (λ i. eqb (getD zone i 0) t)
 
+-- it stands there
+unfoldable pub stands : ℕ → List ℕ → Bool
+stands t zone = ltb (placeOf t zone) (length zone)
+
 -- how much of the zone lies before its suffix after t, t itself included
 unfoldable pub before : ℕ → List ℕ → ℕ
-before t zone = cond (eqb (placeOf t zone) (length zone)) 0 (placeOf t zone + 1)
+before t zone = cond (stands t zone) (placeOf t zone + 1) 0
 
 unfoldable pub suffixAfter : ℕ → List ℕ → List ℕ
 suffixAfter t zone = drop (before t zone) zone

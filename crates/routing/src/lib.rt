@@ -145,10 +145,10 @@ fn before(t: u8, zone: Zone) -> usize
     ensures { λ r. ⌜ r ≡ before t (listOf zone) ⌝ }
 {
     let place = place_of(t, zone);
-    if place == setup::list_length(zone) {
-        0
-    } else {
+    if place < setup::list_length(zone) {
         place + 1
+    } else {
+        0
     }
 }
 

@@ -7,7 +7,9 @@ use Rattle.plan.specs.declared.Region.the-variants.{Source, Target}
 use Rattle.zone.specs.Answer.{zoneAt}
 use Rattle.zone.proofs.PlanZones.{zone-short}
 use Rattle.setup.specs.Setups.{listOf}
+use Rattle.routing.specs.declared.Later.the-variants.{Nothing, Refuse}
 use Rattle.routing.specs.Steps.{target1}
+use Rattle.routing.specs.Routing.{settled}
 use Rattle.routing.proofs.Parts.{stored-held}
 use Rattle.routing.proofs.Zoned.{held-is, settled-passed, room-source, room-target, handed-over, source-refused, target-refused, answer-refused, source-routed, target-routed}
 use borrow.Author.Needs.{needs}
@@ -48,7 +50,7 @@ put-requires c κs =
     let zt = c .before .before .before .before .zone-at2 .result in
     let source : listOf zs ≡ zoneAt (a .plan) Source (a .out .source) = ap listOf (c .before .before .before .before .before .zone-at .ensures) ∙ held-is _ in
     let target : listOf zt ≡ zoneAt (a .plan) Target (target1 (a .out)) = ap listOf (c .before .before .before .before .zone-at2 .ensures) ∙ held-is _ ∙ ap (zoneAt (a .plan) Target) (c .before .before .before .before .before .before .extracted .ensures) in
-    let nothing = sym (c .before .before .before .settled .ensures) ∙ c .before .enum-told .given .1 in
+    let nothing : settled (a .plan) (a .out) (a .later) (length (a .source-list .now)) (length (a .target-list .now)) ≡ Nothing = sym (c .before .before .before .settled .ensures) ∙ c .before .enum-told .given .1 in
     let room = settled-passed (a .plan) (a .out) (a .later) (length (a .source-list .now)) (length (a .target-list .now)) nothing .room in
     let source-room = room-source (length (a .source-list .now)) (length (a .target-list .now)) room in
     source-room
@@ -60,7 +62,7 @@ put-requires-2 c κs =
     let zt = c .before .before .before .before .before .before .before .before .zone-at2 .result in
     let source : listOf zs ≡ zoneAt (a .plan) Source (a .out .source) = ap listOf (c .before .before .before .before .before .before .before .before .before .zone-at .ensures) ∙ held-is _ in
     let target : listOf zt ≡ zoneAt (a .plan) Target (target1 (a .out)) = ap listOf (c .before .before .before .before .before .before .before .before .zone-at2 .ensures) ∙ held-is _ ∙ ap (zoneAt (a .plan) Target) (c .before .before .before .before .before .before .before .before .before .before .extracted .ensures) in
-    let nothing = sym (c .before .before .before .before .before .before .before .settled .ensures) ∙ c .before .before .before .before .before .enum-told .given .1 in
+    let nothing : settled (a .plan) (a .out) (a .later) (length (a .source-list .now)) (length (a .target-list .now)) ≡ Nothing = sym (c .before .before .before .before .before .before .before .settled .ensures) ∙ c .before .before .before .before .before .enum-told .given .1 in
     let room = settled-passed (a .plan) (a .out) (a .later) (length (a .source-list .now)) (length (a .target-list .now)) nothing .room in
     let target-room = room-target (length (a .source-list .now)) (length (a .target-list .now)) room in
     target-room
@@ -72,7 +74,7 @@ hand-over-requires c κs =
     let zt = c .before .before .before .before .before .before .before .before .before .before .before .before .before .zone-at2 .result in
     let source : listOf zs ≡ zoneAt (a .plan) Source (a .out .source) = ap listOf (c .before .before .before .before .before .before .before .before .before .before .before .before .before .before .zone-at .ensures) ∙ held-is _ in
     let target : listOf zt ≡ zoneAt (a .plan) Target (target1 (a .out)) = ap listOf (c .before .before .before .before .before .before .before .before .before .before .before .before .before .zone-at2 .ensures) ∙ held-is _ ∙ ap (zoneAt (a .plan) Target) (c .before .before .before .before .before .before .before .before .before .before .before .before .before .before .before .extracted .ensures) in
-    let nothing = sym (c .before .before .before .before .before .before .before .before .before .before .before .before .settled .ensures) ∙ c .before .before .before .before .before .before .before .before .before .before .enum-told .given .1 in
+    let nothing : settled (a .plan) (a .out) (a .later) (length (a .source-list .now)) (length (a .target-list .now)) ≡ Nothing = sym (c .before .before .before .before .before .before .before .before .before .before .before .before .settled .ensures) ∙ c .before .before .before .before .before .before .before .before .before .before .enum-told .given .1 in
     let room = settled-passed (a .plan) (a .out) (a .later) (length (a .source-list .now)) (length (a .target-list .now)) nothing .room in
     let source-room = room-source (length (a .source-list .now)) (length (a .target-list .now)) room in
     let target-room = room-target (length (a .source-list .now)) (length (a .target-list .now)) room in
@@ -87,7 +89,7 @@ hand-over-requires c κs =
 returns : tie.Need-returns
 returns c =
     let a = c .before .before .before .before .before .before .before .before .before .before .args in
-    let refuse = sym (c .before .before .before .before .settled .ensures) ∙ c .before .before .r .given .1 in (
+    let refuse : settled (a .plan) (a .out) (a .later) (length (a .source-list .now)) (length (a .target-list .now)) ≡ Refuse (c .before .before .r .given .0 .0) = sym (c .before .before .before .before .settled .ensures) ∙ c .before .before .r .given .1 in (
       c .refused .ensures ∙ sym (answer-refused (a .plan) (a .out) (a .later) (length (a .source-list .now)) (length (a .target-list .now)) _ refuse),
       sym (source-refused (a .plan) (a .out) (a .later) (length (a .source-list .now)) (length (a .target-list .now)) _ (a .source-list .now) refuse),
       sym (target-refused (a .plan) (a .out) (a .later) (length (a .source-list .now)) (length (a .target-list .now)) _ (a .target-list .now) refuse),
@@ -106,7 +108,7 @@ returns-2 c =
     let zt = c .before .before .before .before .before .before .before .before .before .before .before .before .before .before .zone-at2 .result in
     let source : listOf zs ≡ zoneAt (a .plan) Source (a .out .source) = ap listOf (c .before .before .before .before .before .before .before .before .before .before .before .before .before .before .before .zone-at .ensures) ∙ held-is _ in
     let target : listOf zt ≡ zoneAt (a .plan) Target (target1 (a .out)) = ap listOf (c .before .before .before .before .before .before .before .before .before .before .before .before .before .before .zone-at2 .ensures) ∙ held-is _ ∙ ap (zoneAt (a .plan) Target) (c .before .before .before .before .before .before .before .before .before .before .before .before .before .before .before .before .extracted .ensures) in
-    let nothing = sym (c .before .before .before .before .before .before .before .before .before .before .before .before .before .settled .ensures) ∙ c .before .before .before .before .before .before .before .before .before .before .before .enum-told .given .1 in
+    let nothing : settled (a .plan) (a .out) (a .later) (length (a .source-list .now)) (length (a .target-list .now)) ≡ Nothing = sym (c .before .before .before .before .before .before .before .before .before .before .before .before .before .settled .ensures) ∙ c .before .before .before .before .before .before .before .before .before .before .before .enum-told .given .1 in
     let room = settled-passed (a .plan) (a .out) (a .later) (length (a .source-list .now)) (length (a .target-list .now)) nothing .room in
     let source-room = room-source (length (a .source-list .now)) (length (a .target-list .now)) room in
     let target-room = room-target (length (a .source-list .now)) (length (a .target-list .now)) room in

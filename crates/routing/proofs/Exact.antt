@@ -1,0 +1,27 @@
+-- Any two results that a contract of this crate allows are equal, and so are any two contents of the two lists: read off the contracts themselves, as the functions in src/ state
+-- them. Assumes nothing.
+use mathlib.Core.Path.{_≡_, sym, _∙_}
+use mathlib.Core.List.{List}
+use Prim.Native.Nat.{ℕ}
+use contract.Lifetimes.{Lfts}
+use denote.Ref.{RefT}
+use denote.Triple.Clauses.{AtExit}
+use borrow.Fn.Kinds.{endedOf}
+use Rattle.plan.specs.declared.Plan.{Plan}
+use Rattle.setup.specs.declared.Setup.{Setup}
+use Rattle.routing.specs.declared.Later.{Later}
+use Rattle.routing.specs.declared.Answer.{Answer}
+use Rattle.routing.proofs.route.Reads as route
+use Rattle.routing.proofs.route.Kinds as route-kinds
+use Rattle.routing.proofs.route_unless.Reads as route-unless
+use Rattle.routing.proofs.route_unless.Kinds as route-unless-kinds
+
+pub route-exact : (κs : Lfts 2) (plan : Plan) (out : Setup) (source target : RefT (List ℕ)) (end end′ : AtExit (endedOf 2 route-kinds.ps route-kinds.r) κs) (r s : Answer)
+    → route.Post κs (plan, (out, (source, (target, tt)))) r end → route.Post κs (plan, (out, (source, (target, tt)))) s end′
+    → (r ≡ s) × (end .1 .1 .0 .now ≡ end′ .1 .1 .0 .now) × (end .1 .1 .1 .0 .now ≡ end′ .1 .1 .1 .0 .now)
+route-exact κs plan out source target end end′ r s p q = (p .0 ∙ sym (q .0), p .1 ∙ sym (q .1), p .2 ∙ sym (q .2))
+
+pub route-unless-exact : (κs : Lfts 2) (plan : Plan) (out : Setup) (later : Later) (source target : RefT (List ℕ)) (end end′ : AtExit (endedOf 2 route-unless-kinds.ps route-unless-kinds.r) κs) (r s : Answer)
+    → route-unless.Post κs (plan, (out, (later, (source, (target, tt))))) r end → route-unless.Post κs (plan, (out, (later, (source, (target, tt))))) s end′
+    → (r ≡ s) × (end .1 .1 .1 .0 .now ≡ end′ .1 .1 .1 .0 .now) × (end .1 .1 .1 .1 .0 .now ≡ end′ .1 .1 .1 .1 .0 .now)
+route-unless-exact κs plan out later source target end end′ r s p q = (p .0 ∙ sym (q .0), p .1 ∙ sym (q .1), p .2 ∙ sym (q .2))
