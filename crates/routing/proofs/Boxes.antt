@@ -18,21 +18,7 @@ use Rattle.plan.proofs.Lookup.{found-used}
 use Rattle.plan.proofs.Holders.{line-one, resource-some, mobile-none}
 use Rattle.routing.specs.declared.Callee.{Callee}
 use Rattle.routing.specs.declared.Callee.the-variants.{Feature, Line, Trunk, Resource, Error}
-use Rattle.routing.specs.Interface.{boxOf, firstBox, foundBox, interfaceAt}
-
-abbrev pub isFeature : Callee → Bool
-isFeature (Feature t a) = true
-isFeature (Line n a) = false
-isFeature (Trunk n a) = false
-isFeature (Resource n a) = false
-isFeature (Error a) = false
-
-abbrev pub addressOf : Callee → ℕ
-addressOf (Feature t a) = a
-addressOf (Line n a) = a
-addressOf (Trunk n a) = a
-addressOf (Resource n a) = a
-addressOf (Error a) = a
+use Rattle.routing.specs.Interface.{isFeature, addressOf, boxOf, firstBox, foundBox, interfaceAt}
 
 record Interface (c : Callee) (a : ℕ) : Type 0 where
   pub no-feature : isFeature c ≡ false

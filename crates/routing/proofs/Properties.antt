@@ -37,12 +37,12 @@ use Rattle.embedded.specs.Embedded.{embedded}
 use Rattle.embedded.proofs.Digits.{embedded-legal}
 use Rattle.routing.specs.declared.Callee.{Callee}
 use Rattle.routing.specs.declared.Callee.the-variants.{Feature}
-use Rattle.routing.specs.Interface.{interfaceAt}
+use Rattle.routing.specs.Interface.{isFeature, interfaceAt}
 use Rattle.routing.specs.Steps.{dials, target1, placeOf, stands, zone2, route2, empty, exhausted, region3, route3, outer3, chosen, tail, callee4, received4, regionOf, routeOf, calleeOf, receivedOf, leftOf}
 use Rattle.routing.specs.Properties.{FeatureBox, Properties, Manual66, ReceivedWellFormed}
 use Rattle.routing.proofs.Zoned.{held-is, target-given, route-begins}
 use Rattle.routing.specs.Places.{begins}
-use Rattle.routing.proofs.Boxes.{interface-no-feature, isFeature}
+use Rattle.routing.proofs.Boxes.{interface-no-feature}
 
 -- ---- end parts of a zone
 

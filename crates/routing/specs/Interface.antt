@@ -1,6 +1,6 @@
 -- The interface box of an address (manual 6.5): the target's line box; its first listed trunk or resource box (house choice); else the error box. Assumes nothing.
 use Prim.Native.Nat.{ℕ}
-use mathlib.Core.Bool.{cond}
+use mathlib.Core.Bool.{Bool, true, false, cond}
 use lib.Dec.{eqb}
 use Rattle.plan.specs.declared.Subscriber.{Subscriber}
 use Rattle.plan.specs.declared.Plan.{Plan}
@@ -9,7 +9,22 @@ use Rattle.plan.specs.declared.Found.the-variants.{At, Nothing}
 use Rattle.plan.specs.Parts.{at, box}
 use Rattle.plan.specs.Find.{lookup}
 use Rattle.routing.specs.declared.Callee.{Callee}
-use Rattle.routing.specs.declared.Callee.the-variants.{Line, Trunk, Resource, Error}
+use Rattle.routing.specs.declared.Callee.the-variants.{Feature, Line, Trunk, Resource, Error}
+
+-- whether a box is a feature box, and its address
+abbrev pub isFeature : Callee → Bool
+isFeature (Feature t a) = true
+isFeature (Line n a) = false
+isFeature (Trunk n a) = false
+isFeature (Resource n a) = false
+isFeature (Error a) = false
+
+abbrev pub addressOf : Callee → ℕ
+addressOf (Feature t a) = a
+addressOf (Line n a) = a
+addressOf (Trunk n a) = a
+addressOf (Resource n a) = a
+addressOf (Error a) = a
 
 -- box number n at address a, by the kind of the subscriber: 1 line, 2 trunk, 3 resource; a mobile has no box of its own
 unfoldable pub boxOf : ℕ → ℕ → ℕ → Callee

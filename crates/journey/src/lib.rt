@@ -1,0 +1,1 @@
+// The journey of a setup when no box changes anything.
