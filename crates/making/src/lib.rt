@@ -1,16 +1,19 @@
 // The three ways to make a setup: new, continued and reversed.
 ghost use mathlib.Core.Path.{_≡_};
-ghost use mathlib.Core.Bool.{_&&_};
+ghost use mathlib.Core.Bool.{_&&_, cond};
 ghost use mathlib.Core.List.{[]};
 ghost use lib.Dec.{eqb};
 ghost use lib.ListN.{take};
 ghost use Rattle.typeset.specs.Sets.{has};
+ghost use Rattle.refusal.specs.declared.Place.the-variants.{Nowhere, At};
 ghost use Rattle.plan.specs.Parts.{legal};
+ghost use Rattle.plan.specs.Sound.{sound};
 ghost use Rattle.plan.specs.Find.{lookup};
 ghost use Rattle.zone.specs.Order.{held};
 ghost use Rattle.setup.specs.Dialling.{dialled, stringOf};
 ghost use Rattle.setup.specs.Setups.{wellFormed};
-ghost use Rattle.making.specs.Making.{boxAddress, boxType, kindOf, somebody, typeExists, makesNew, makesMore, addressHeld, orKept, stringOr, outerFor, newSetup, sourceIn, targetIn, further, continuedSetup, turned, reversedSetup, isList, notOwn, newOutcome, continuedOutcome, reversedOutcome, blankSetup, answered};
+ghost use Rattle.making.specs.Making.{boxAddress, boxType, kindOf, somebody, typeExists, makesNew, makesMore, addressHeld, orKept, stringOr, outerFor, newSetup, sourceIn, targetIn, further, continuedSetup, turned, reversedSetup, isList, notOwn, newOutcome, continuedOutcome, reversedOutcome, blankSetup, answered, newAnswer, continuedAnswer, reversedAnswer, numberOfOutcome, placeOfOutcome};
+ghost use Rattle.making.specs.Rows.{firstOf, newRows, continuedRows, reversedRows};
 use plan::Found;
 use plan::Plan;
 use plan::Region;
@@ -471,7 +474,8 @@ fn answered(outcome: Outcome, s: Setup) -> Answer
 
 // A new setup (manual 5.4), for any plan, maker, bytes and number.
 pub fn new_setup(plan: Plan, maker: Maker, string: &[u8], target_arg: u32) -> Answer
-    ensures { λ r. ⌜ r ≡ answered (newOutcome plan maker (now (string .entry)) «target_arg») (newSetup (boxAddress maker) (now (string .entry)) «target_arg») ⌝ }
+    ensures { λ r. ⌜ r ≡ newAnswer plan maker (now (string .entry)) «target_arg» ⌝ }
+    ensures numbered { λ r. ⌜ (numberOfOutcome (r .outcome) ≡ firstOf (newRows plan maker (now (string .entry)) «target_arg»)) × (placeOfOutcome (r .outcome) ≡ cond (sound plan) Nowhere (At 0)) ⌝ }
 {
     let outcome = new_outcome(plan, maker, string, target_arg);
     let made = new_of(box_address(maker), string, target_arg);
@@ -508,7 +512,8 @@ pub fn continued_setup(
     string: &[u8],
     target_arg: u32,
 ) -> Answer
-    ensures { λ r. ⌜ r ≡ answered (continuedOutcome plan maker s «source_arg» (now (string .entry)) «target_arg») (continuedSetup (boxAddress maker) s «source_arg» (now (string .entry)) «target_arg») ⌝ }
+    ensures { λ r. ⌜ r ≡ continuedAnswer plan maker s «source_arg» (now (string .entry)) «target_arg» ⌝ }
+    ensures numbered { λ r. ⌜ (numberOfOutcome (r .outcome) ≡ firstOf (continuedRows plan maker s «source_arg» (now (string .entry)) «target_arg»)) × (placeOfOutcome (r .outcome) ≡ cond (sound plan) Nowhere (At 0)) ⌝ }
 {
     let outcome = continued_outcome(plan, maker, s, source_arg, string, target_arg);
     let made = continued_of(box_address(maker), s, source_arg, string, target_arg);
@@ -552,7 +557,8 @@ pub fn reversed_setup(
     string: &[u8],
     target_arg: u32,
 ) -> Answer
-    ensures { λ r. ⌜ r ≡ answered (reversedOutcome plan maker s «source_arg» (now (string .entry)) «target_arg») (reversedSetup (boxType maker) (boxAddress maker) s «source_arg» (now (string .entry)) «target_arg») ⌝ }
+    ensures { λ r. ⌜ r ≡ reversedAnswer plan maker s «source_arg» (now (string .entry)) «target_arg» ⌝ }
+    ensures numbered { λ r. ⌜ (numberOfOutcome (r .outcome) ≡ firstOf (reversedRows plan maker s «source_arg» (now (string .entry)) «target_arg»)) × (placeOfOutcome (r .outcome) ≡ cond (sound plan) Nowhere (At 0)) ⌝ }
 {
     let outcome = reversed_outcome(plan, maker, s, source_arg, string, target_arg);
     let made = reversed_of(
