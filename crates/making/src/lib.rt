@@ -25,6 +25,9 @@ use setup::Route;
 use setup::Setup;
 use zone::Zone;
 
+// The place of 23 for a plan in memory.
+const IN_MEMORY: usize = 0;
+
 // The box that makes a setup: a feature box with its type and address, a line or trunk box with the source it names, a resource box, the error box.
 pub enum Maker {
     Feature(u8, u32),
@@ -327,7 +330,7 @@ fn new_outcome(plan: Plan, maker: Maker, string: &[u8], target_arg: u32) -> Outc
     ensures { λ r. ⌜ r ≡ newOutcome plan maker (now (string .entry)) «target_arg» ⌝ }
 {
     if !plan::sound(plan) {
-        return Outcome::Refused(Refusal::RuleBroken(0));
+        return Outcome::Refused(Refusal::RuleBroken(IN_MEMORY));
     }
     if !type_exists(plan, maker) {
         return Outcome::Refused(Refusal::NoSuchType);
@@ -360,7 +363,7 @@ fn continued_outcome(
     let region = s.region;
     let at = box_address(maker);
     if !plan::sound(plan) {
-        return Outcome::Refused(Refusal::RuleBroken(0));
+        return Outcome::Refused(Refusal::RuleBroken(IN_MEMORY));
     }
     if !type_exists(plan, maker) {
         return Outcome::Refused(Refusal::NoSuchType);
@@ -410,7 +413,7 @@ fn reversed_outcome(
     let at = box_address(maker);
     let back = turned(region);
     if !plan::sound(plan) {
-        return Outcome::Refused(Refusal::RuleBroken(0));
+        return Outcome::Refused(Refusal::RuleBroken(IN_MEMORY));
     }
     if !type_exists(plan, maker) {
         return Outcome::Refused(Refusal::NoSuchType);
