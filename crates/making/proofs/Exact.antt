@@ -20,12 +20,12 @@ use Rattle.making.proofs.reversed_setup.Kinds as reversed-setup-kinds
 
 pub new-setup-exact : (κs : Lfts 1) (plan : Plan) (maker : Maker) (string : RefT (List ℕ)) (target : ℕ) (end : AtExit (endedOf 1 new-setup-kinds.ps new-setup-kinds.r) κs) (r s : Answer)
     → new-setup.Post κs (plan, (maker, (string, (target, tt)))) r end → new-setup.Post κs (plan, (maker, (string, (target, tt)))) s end → r ≡ s
-new-setup-exact κs plan maker string target end r s p q = p ∙ sym q
+new-setup-exact κs plan maker string target end r s p q = p .0 ∙ sym (q .0)
 
 pub continued-setup-exact : (κs : Lfts 1) (plan : Plan) (maker : Maker) (setup : Setup) (source : ℕ) (string : RefT (List ℕ)) (target : ℕ) (end : AtExit (endedOf 1 continued-setup-kinds.ps continued-setup-kinds.r) κs) (r s : Answer)
     → continued-setup.Post κs (plan, (maker, (setup, (source, (string, (target, tt)))))) r end → continued-setup.Post κs (plan, (maker, (setup, (source, (string, (target, tt)))))) s end → r ≡ s
-continued-setup-exact κs plan maker setup source string target end r s p q = p ∙ sym q
+continued-setup-exact κs plan maker setup source string target end r s p q = p .0 ∙ sym (q .0)
 
 pub reversed-setup-exact : (κs : Lfts 1) (plan : Plan) (maker : Maker) (setup : Setup) (source : ℕ) (string : RefT (List ℕ)) (target : ℕ) (end : AtExit (endedOf 1 reversed-setup-kinds.ps reversed-setup-kinds.r) κs) (r s : Answer)
     → reversed-setup.Post κs (plan, (maker, (setup, (source, (string, (target, tt)))))) r end → reversed-setup.Post κs (plan, (maker, (setup, (source, (string, (target, tt)))))) s end → r ≡ s
-reversed-setup-exact κs plan maker setup source string target end r s p q = p ∙ sym q
+reversed-setup-exact κs plan maker setup source string target end r s p q = p .0 ∙ sym (q .0)

@@ -3,3 +3,4 @@ pub mod WellFormed
 pub mod Exact
 pub mod Manual
 pub mod Numbered
+pub mod Answers

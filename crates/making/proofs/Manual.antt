@@ -1,4 +1,5 @@
--- The manual's equations for the three methods (5.4, 5.5, 5.6), field by field. In them an argument 0 is `noAddr` and an empty string `noString`. Assumes nothing.
+-- The manual's equations for continued and reversed setups (5.5, 5.6), field by field, of the setup that is made; `Answers.antt` states them of what is answered. In them an argument 0
+-- is `noAddr` and an empty string `noString`. Assumes nothing.
 use mathlib.Core.Path.{_≡_, refl}
 use mathlib.Core.Bool.{Bool, true, false, cond}
 use mathlib.Core.List.{List}
@@ -18,22 +19,7 @@ use Rattle.setup.specs.declared.Setup.{Setup}
 use Rattle.setup.specs.Dialling.{dialled, stringOf}
 use Rattle.setup.specs.Setups.{routing, listOf}
 use Rattle.zone.proofs.Held.{held-list}
-use Rattle.making.specs.Making.{newSetup, further, continuedSetup, turned, reversedSetup}
-
--- ---- 5.4
-
-pub record New (box : ℕ) (string : List ℕ) (target : ℕ) (s : Setup) : Type 0 where
-  pub regn : s .region ≡ Source
-  pub src : s .source ≡ box
-  pub dld : s .dialled ≡ dialled string
-  pub trg : s .target ≡ target
-  pub route : s .route ≡ Whole
-  pub placing : s .placing ≡ NoPlacing
-  pub outer : s .outer ≡ OuterAt box
-
-pub new : (box : ℕ) (string : List ℕ) (target : ℕ) → New box string target (newSetup box string target)
-unfolding newSetup
-new box string target = record { regn = refl; src = refl; dld = refl; trg = refl; route = refl; placing = refl; outer = refl }
+use Rattle.making.specs.Making.{further, continuedSetup, turned, reversedSetup}
 
 -- ---- 5.5: ss is the stored setup, box the address of the box
 

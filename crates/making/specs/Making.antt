@@ -5,7 +5,9 @@ use mathlib.Core.List.{List, []}
 use lib.Dec.{eqb}
 use lib.ListN.{length}
 use Rattle.typeset.specs.Sets.{has}
-use Rattle.refusal.specs.Numbers.{numberOf}
+use Rattle.refusal.specs.Numbers.{numberOf, placeOf}
+use Rattle.refusal.specs.declared.Place.{Place}
+use Rattle.refusal.specs.declared.Place.the-variants.{Nowhere}
 use Rattle.refusal.specs.declared.Refusal.{Refusal}
 use Rattle.refusal.specs.declared.Refusal.the-variants.{RuleBroken, NoSuchType, NotForThisBox, WrongAddress, NotReversible, Malformed, NotRoutedHere, BadString, OwnAddress, AddressTooLarge}
 use Rattle.plan.specs.declared.Region.{Region}
@@ -230,7 +232,24 @@ unfoldable pub answered : Outcome → Setup → Answer
 answered Made s = record { outcome = Made; setup = s }
 answered (Refused r) s = record { outcome = Refused r; setup = blankSetup }
 
+-- what the three ways answer
+abbrev pub newAnswer : Plan → Maker → List ℕ → ℕ → Answer
+newAnswer p m string targetArg = answered (newOutcome p m string targetArg) (newSetup (boxAddress m) string targetArg)
+
+abbrev pub continuedAnswer : Plan → Maker → Setup → ℕ → List ℕ → ℕ → Answer
+continuedAnswer p m s sourceArg string targetArg =
+    answered (continuedOutcome p m s sourceArg string targetArg) (continuedSetup (boxAddress m) s sourceArg string targetArg)
+
+abbrev pub reversedAnswer : Plan → Maker → Setup → ℕ → List ℕ → ℕ → Answer
+reversedAnswer p m s sourceArg string targetArg =
+    answered (reversedOutcome p m s sourceArg string targetArg) (reversedSetup (boxType m) (boxAddress m) s sourceArg string targetArg)
+
 -- what an outcome is in document 01's numbers: 0 for a setup that was made, else the number of the refusal
 abbrev pub numberOfOutcome : Outcome → ℕ
 numberOfOutcome Made = 0
 numberOfOutcome (Refused r) = numberOf r
+
+-- and its place, which 23 alone has here
+abbrev pub placeOfOutcome : Outcome → Place
+placeOfOutcome Made = Nowhere
+placeOfOutcome (Refused r) = placeOf r

@@ -1,16 +1,19 @@
 // The three ways to make a setup: new, continued and reversed.
 ghost use mathlib.Core.Path.{_≡_};
-ghost use mathlib.Core.Bool.{_&&_};
+ghost use mathlib.Core.Bool.{_&&_, cond};
 ghost use mathlib.Core.List.{[]};
 ghost use lib.Dec.{eqb};
 ghost use lib.ListN.{take};
 ghost use Rattle.typeset.specs.Sets.{has};
+ghost use Rattle.refusal.specs.declared.Place.the-variants.{Nowhere, At};
 ghost use Rattle.plan.specs.Parts.{legal};
+ghost use Rattle.plan.specs.Sound.{sound};
 ghost use Rattle.plan.specs.Find.{lookup};
 ghost use Rattle.zone.specs.Order.{held};
 ghost use Rattle.setup.specs.Dialling.{dialled, stringOf};
 ghost use Rattle.setup.specs.Setups.{wellFormed};
-ghost use Rattle.making.specs.Making.{boxAddress, boxType, kindOf, somebody, typeExists, makesNew, makesMore, addressHeld, orKept, stringOr, outerFor, newSetup, sourceIn, targetIn, further, continuedSetup, turned, reversedSetup, isList, notOwn, newOutcome, continuedOutcome, reversedOutcome, blankSetup, answered};
+ghost use Rattle.making.specs.Making.{boxAddress, boxType, kindOf, somebody, typeExists, makesNew, makesMore, addressHeld, orKept, stringOr, outerFor, newSetup, sourceIn, targetIn, further, continuedSetup, turned, reversedSetup, isList, notOwn, newOutcome, continuedOutcome, reversedOutcome, blankSetup, answered, newAnswer, continuedAnswer, reversedAnswer, numberOfOutcome, placeOfOutcome};
+ghost use Rattle.making.specs.Rows.{firstOf, newRows, continuedRows, reversedRows};
 use plan::Found;
 use plan::Plan;
 use plan::Region;
@@ -21,6 +24,9 @@ use setup::Placing;
 use setup::Route;
 use setup::Setup;
 use zone::Zone;
+
+// The place of 23 for a plan in memory.
+const IN_MEMORY: usize = 0;
 
 // The box that makes a setup: a feature box with its type and address, a line or trunk box with the source it names, a resource box, the error box.
 pub enum Maker {
@@ -324,7 +330,7 @@ fn new_outcome(plan: Plan, maker: Maker, string: &[u8], target_arg: u32) -> Outc
     ensures { λ r. ⌜ r ≡ newOutcome plan maker (now (string .entry)) «target_arg» ⌝ }
 {
     if !plan::sound(plan) {
-        return Outcome::Refused(Refusal::RuleBroken(0));
+        return Outcome::Refused(Refusal::RuleBroken(IN_MEMORY));
     }
     if !type_exists(plan, maker) {
         return Outcome::Refused(Refusal::NoSuchType);
@@ -357,7 +363,7 @@ fn continued_outcome(
     let region = s.region;
     let at = box_address(maker);
     if !plan::sound(plan) {
-        return Outcome::Refused(Refusal::RuleBroken(0));
+        return Outcome::Refused(Refusal::RuleBroken(IN_MEMORY));
     }
     if !type_exists(plan, maker) {
         return Outcome::Refused(Refusal::NoSuchType);
@@ -407,7 +413,7 @@ fn reversed_outcome(
     let at = box_address(maker);
     let back = turned(region);
     if !plan::sound(plan) {
-        return Outcome::Refused(Refusal::RuleBroken(0));
+        return Outcome::Refused(Refusal::RuleBroken(IN_MEMORY));
     }
     if !type_exists(plan, maker) {
         return Outcome::Refused(Refusal::NoSuchType);
@@ -471,7 +477,8 @@ fn answered(outcome: Outcome, s: Setup) -> Answer
 
 // A new setup (manual 5.4), for any plan, maker, bytes and number.
 pub fn new_setup(plan: Plan, maker: Maker, string: &[u8], target_arg: u32) -> Answer
-    ensures { λ r. ⌜ r ≡ answered (newOutcome plan maker (now (string .entry)) «target_arg») (newSetup (boxAddress maker) (now (string .entry)) «target_arg») ⌝ }
+    ensures { λ r. ⌜ r ≡ newAnswer plan maker (now (string .entry)) «target_arg» ⌝ }
+    ensures numbered { λ r. ⌜ (numberOfOutcome (r .outcome) ≡ firstOf (newRows plan maker (now (string .entry)) «target_arg»)) × (placeOfOutcome (r .outcome) ≡ cond (sound plan) Nowhere (At 0)) ⌝ }
 {
     let outcome = new_outcome(plan, maker, string, target_arg);
     let made = new_of(box_address(maker), string, target_arg);
@@ -508,7 +515,8 @@ pub fn continued_setup(
     string: &[u8],
     target_arg: u32,
 ) -> Answer
-    ensures { λ r. ⌜ r ≡ answered (continuedOutcome plan maker s «source_arg» (now (string .entry)) «target_arg») (continuedSetup (boxAddress maker) s «source_arg» (now (string .entry)) «target_arg») ⌝ }
+    ensures { λ r. ⌜ r ≡ continuedAnswer plan maker s «source_arg» (now (string .entry)) «target_arg» ⌝ }
+    ensures numbered { λ r. ⌜ (numberOfOutcome (r .outcome) ≡ firstOf (continuedRows plan maker s «source_arg» (now (string .entry)) «target_arg»)) × (placeOfOutcome (r .outcome) ≡ cond (sound plan) Nowhere (At 0)) ⌝ }
 {
     let outcome = continued_outcome(plan, maker, s, source_arg, string, target_arg);
     let made = continued_of(box_address(maker), s, source_arg, string, target_arg);
@@ -552,7 +560,8 @@ pub fn reversed_setup(
     string: &[u8],
     target_arg: u32,
 ) -> Answer
-    ensures { λ r. ⌜ r ≡ answered (reversedOutcome plan maker s «source_arg» (now (string .entry)) «target_arg») (reversedSetup (boxType maker) (boxAddress maker) s «source_arg» (now (string .entry)) «target_arg») ⌝ }
+    ensures { λ r. ⌜ r ≡ reversedAnswer plan maker s «source_arg» (now (string .entry)) «target_arg» ⌝ }
+    ensures numbered { λ r. ⌜ (numberOfOutcome (r .outcome) ≡ firstOf (reversedRows plan maker s «source_arg» (now (string .entry)) «target_arg»)) × (placeOfOutcome (r .outcome) ≡ cond (sound plan) Nowhere (At 0)) ⌝ }
 {
     let outcome = reversed_outcome(plan, maker, s, source_arg, string, target_arg);
     let made = reversed_of(

@@ -1,7 +1,7 @@
 -- What a well-formed setup keeps, and that a setup which keeps it all is well formed; legal strings as a setup holds them. Assumes nothing.
 use mathlib.Core.Path.{_≡_, refl, sym, ap, _∙_}
-use mathlib.Core.Logic.{⊎-elim}
-use mathlib.Core.Bool.{Bool, true, false, not, _&&_, false≢true}
+use mathlib.Core.Logic.{⊎-elim, _↔_}
+use mathlib.Core.Bool.{Bool, true, false, not, _&&_, cond, false≢true}
 use mathlib.Core.List.{List}
 use Prim.Native.Nat.{ℕ, _-_, _≤_, _<_, min}
 use native.Mathlib.Omega.{arith}
@@ -19,6 +19,9 @@ use Rattle.zone.specs.declared.Zone.{Zone}
 use Rattle.setup.specs.declared.Route.{Route}
 use Rattle.setup.specs.declared.Route.the-variants.{Whole, Suffix, Listed}
 use Rattle.setup.specs.declared.Setup.{Setup}
+use Rattle.setup.specs.declared.Fault.{Fault}
+use Rattle.setup.specs.declared.Fault.the-variants.{WellFormed, BadAddressOrString, NoRoutingAddress, NoEndPart, WrongPlacing, WrongOuter}
+use Rattle.setup.specs.FaultNumber.{numberOfFault}
 use Rattle.setup.specs.Dialling.{symbol, legalString, padded, dialled, stringOf, legalDialled}
 use Rattle.setup.specs.Setups.{routingAddress, inRange, listFits, routeFits, placingFits, outerFits, faultIn, zoneAsked, fault, faultless, wellFormed}
 
@@ -91,3 +94,21 @@ asked-fits Listed zone l = refl
 pub asked-enough : (zone : List ℕ) (reversible : ℕ) (s : Setup) → faultIn (zoneAsked (s .route) zone) reversible s ≡ faultIn zone reversible s
 unfolding faultIn
 asked-enough zone reversible s = rw (asked-fits (s .route) zone (s .list))
+
+-- ---- the number of a fault: 0 exactly for a well-formed setup, else 5
+
+number-faultless : (f : Fault) → numberOfFault f ≡ cond (faultless f) 0 5
+number-faultless WellFormed = refl
+number-faultless BadAddressOrString = refl
+number-faultless NoRoutingAddress = refl
+number-faultless NoEndPart = refl
+number-faultless WrongPlacing = refl
+number-faultless WrongOuter = refl
+
+pub fault-number : (p : Plan) (s : Setup) → numberOfFault (fault p s) ≡ cond (wellFormed p s) 0 5
+unfolding wellFormed
+fault-number p s = number-faultless (fault p s)
+
+-- a setup is well formed exactly when it keeps all five
+pub well-formed-exactly : (p : Plan) (s : Setup) → (wellFormed p s ≡ true) ↔ Kept p s
+well-formed-exactly p s = (well-formed-kept p s, well-formed-of p s)

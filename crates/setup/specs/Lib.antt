@@ -1,2 +1,3 @@
 pub mod Dialling
+pub mod FaultNumber
 pub mod Setups

@@ -1,7 +1,8 @@
 -- `making::continued_setup` meets its contract. Assumes nothing.
 use mathlib.Core.Path.{_≡_, ap, ap₂, _∙_}
-use Rattle.making.specs.Making.{boxAddress, continuedSetup, continuedOutcome, answered}
+use Rattle.making.specs.Making.{boxAddress, continuedSetup, continuedOutcome, answered, continuedAnswer}
 use Rattle.making.proofs.Outcomes.{answered-alike, legal-all, continued-made}
+use Rattle.making.proofs.Numbered.{continued-said}
 use mathlib.Core.List.{List}
 use Prim.Native.Nat.{ℕ}
 use lib.ListN.{take}
@@ -27,11 +28,13 @@ returns c =
     let s = a .string .now in
     let outcome = c .before .before .before .continued-outcome .ensures in
     let made : c .before .continued-of .result ≡ continuedSetup (boxAddress (a .maker)) (a .s) (a .source-arg) (take 32 s) (a .target-arg) = rw (← c .before .before .box-address .ensures) (c .before .continued-of .ensures) in
+    let exact : c .answered .result ≡ continuedAnswer (a .plan) (a .maker) (a .s) (a .source-arg) s (a .target-arg) =
     c .answered .ensures
     ∙ ap₂ answered outcome made
     ∙ answered-alike (continuedOutcome (a .plan) (a .maker) (a .s) (a .source-arg) s (a .target-arg)) _ _ (λ e.
     ap (λ (l : List ℕ). continuedSetup (boxAddress (a .maker)) (a .s) (a .source-arg) l (a .target-arg))
-    (legal-all s (continued-made (a .plan) (a .maker) (a .s) (a .source-arg) s (a .target-arg) e .string-legal)))
+    (legal-all s (continued-made (a .plan) (a .maker) (a .s) (a .source-arg) s (a .target-arg) e .string-legal))) in
+    (exact, continued-said (a .plan) (a .maker) (a .s) (a .source-arg) s (a .target-arg) (c .answered .result) exact)
 
 pub continued-setup-spec : {M : Type 1} → statement M
 continued-setup-spec =

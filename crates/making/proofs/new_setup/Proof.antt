@@ -1,7 +1,8 @@
 -- `making::new_setup` meets its contract. Assumes nothing.
 use mathlib.Core.Path.{_≡_, ap, ap₂, _∙_}
-use Rattle.making.specs.Making.{boxAddress, newSetup, newOutcome, answered}
+use Rattle.making.specs.Making.{boxAddress, newSetup, newOutcome, answered, newAnswer}
 use Rattle.making.proofs.Outcomes.{answered-alike, legal-all, new-made}
+use Rattle.making.proofs.Numbered.{new-said}
 use mathlib.Core.List.{List}
 use Prim.Native.Nat.{ℕ}
 use lib.ListN.{take}
@@ -27,10 +28,12 @@ returns c =
     let s = a .string .now in
     let outcome = c .before .before .before .new-outcome .ensures in
     let made : c .before .new-of .result ≡ newSetup (boxAddress (a .maker)) (take 32 s) (a .target-arg) = rw (← c .before .before .box-address .ensures) (c .before .new-of .ensures) in
+    let exact : c .answered .result ≡ newAnswer (a .plan) (a .maker) s (a .target-arg) =
     c .answered .ensures
     ∙ ap₂ answered outcome made
     ∙ answered-alike (newOutcome (a .plan) (a .maker) s (a .target-arg)) _ _ (λ e.
-    ap (λ (l : List ℕ). newSetup (boxAddress (a .maker)) l (a .target-arg)) (legal-all s (new-made (a .plan) (a .maker) s (a .target-arg) e .string-legal)))
+    ap (λ (l : List ℕ). newSetup (boxAddress (a .maker)) l (a .target-arg)) (legal-all s (new-made (a .plan) (a .maker) s (a .target-arg) e .string-legal))) in
+    (exact, new-said (a .plan) (a .maker) s (a .target-arg) (c .answered .result) exact)
 
 pub new-setup-spec : {M : Type 1} → statement M
 new-setup-spec =

@@ -1,7 +1,8 @@
 -- `making::reversed_setup` meets its contract. Assumes nothing.
 use mathlib.Core.Path.{_≡_, ap, ap₂, _∙_}
-use Rattle.making.specs.Making.{boxAddress, boxType, reversedSetup, reversedOutcome, answered}
+use Rattle.making.specs.Making.{boxAddress, boxType, reversedSetup, reversedOutcome, answered, reversedAnswer}
 use Rattle.making.proofs.Outcomes.{answered-alike, legal-all, reversed-made}
+use Rattle.making.proofs.Numbered.{reversed-said}
 use mathlib.Core.List.{List}
 use Prim.Native.Nat.{ℕ}
 use lib.ListN.{take}
@@ -30,11 +31,13 @@ returns c =
     let s = a .string .now in
     let outcome = c .before .before .before .before .reversed-outcome .ensures in
     let made : c .before .reversed-of .result ≡ reversedSetup (boxType (a .maker)) (boxAddress (a .maker)) (a .s) (a .source-arg) (take 32 s) (a .target-arg) = rw (← c .before .before .before .box-type .ensures, ← c .before .before .box-address .ensures) (c .before .reversed-of .ensures) in
+    let exact : c .answered .result ≡ reversedAnswer (a .plan) (a .maker) (a .s) (a .source-arg) s (a .target-arg) =
     c .answered .ensures
     ∙ ap₂ answered outcome made
     ∙ answered-alike (reversedOutcome (a .plan) (a .maker) (a .s) (a .source-arg) s (a .target-arg)) _ _ (λ e.
     ap (λ (l : List ℕ). reversedSetup (boxType (a .maker)) (boxAddress (a .maker)) (a .s) (a .source-arg) l (a .target-arg))
-    (legal-all s (reversed-made (a .plan) (a .maker) (a .s) (a .source-arg) s (a .target-arg) e .string-legal)))
+    (legal-all s (reversed-made (a .plan) (a .maker) (a .s) (a .source-arg) s (a .target-arg) e .string-legal))) in
+    (exact, reversed-said (a .plan) (a .maker) (a .s) (a .source-arg) s (a .target-arg) (c .answered .result) exact)
 
 pub reversed-setup-spec : {M : Type 1} → statement M
 reversed-setup-spec =
