@@ -284,7 +284,7 @@ fn box_of(n: u16, at: u32) -> Maker {
 
 // ---- setups by numbers
 
-// A list, whole, suffix, with the string "300" and no outer address.
+// A list, with the string "300"; a whole route; a suffix.
 fn from_list(region: u8, source: u32, target: u32, list: u16) -> Numbers {
     Numbers {
         region,
@@ -768,7 +768,7 @@ fn new(maker: u16, at: u32, string: u8, target_arg: u32) -> Trial {
     }
 }
 
-// With no arguments, and with all of them.
+// With no arguments.
 fn plainly(way: u8, maker: u16, at: u32, stored: Numbers) -> Trial {
     Trial {
         way,
@@ -782,7 +782,7 @@ fn plainly(way: u8, maker: u16, at: u32, stored: Numbers) -> Trial {
     }
 }
 
-// By type 4 at 200.
+// By type 4 at 200, with these arguments.
 fn given(way: u8, stored: Numbers, source_arg: u32, string: u8, target_arg: u32) -> Trial {
     Trial {
         way,
@@ -975,7 +975,7 @@ fn all_refusals(t: Tally) -> Tally {
 
 fn papers(t: Tally) -> Tally {
     let s = from_list(TARGET, 200, 700, 0);
-    say(b"-- the setups of P5 to P8, and of the continuation of P7\n");
+    say(b"-- the setups of P5, P6, P7, the continuation of P7, and P8\n");
     let t = made(t, new(LINE, 200, S300, 0), whole(SOURCE, 200, S300, 0, 200));
     let t = made(
         t,
