@@ -14,12 +14,47 @@ use setup::Route;
 use setup::Setup;
 use zone::Zone;
 
-// The three ways, by number.
+// Everything in a trial is named by a number, so that a case is one line of numbers. The three ways:
 const NEW: u8 = 0;
 
 const CONTINUED: u8 = 1;
 
 const REVERSED: u8 = 2;
+
+// Boxes: a feature box by its type, and the others.
+const LINE: u16 = 256;
+
+const TRUNK: u16 = 257;
+
+const RESOURCE: u16 = 258;
+
+const ERROR: u16 = 259;
+
+const SOURCE: u8 = 0;
+
+const TARGET: u8 = 1;
+
+const WHOLE: u8 = 0;
+
+const SUFFIX: u8 = 1;
+
+const LIST: u8 = 2;
+
+// No placing type, no outer address.
+const NO_PLACING: u16 = 256;
+
+const NO_OUTER: u64 = 4_294_967_296;
+
+// Strings, by the number of `text`.
+const EMPTY: u8 = 0;
+
+const S300: u8 = 1;
+
+const BAD: u8 = 2;
+
+const OF_32: u8 = 3;
+
+const OF_33: u8 = 4;
 
 // How many answers were looked at, and how many were as expected.
 struct Tally {
@@ -27,20 +62,36 @@ struct Tally {
     right: u32,
 }
 
-// What an answer is asked for, its string aside. A new setup has no stored one, and no source argument.
+// A setup by numbers. A list has its types as decimal digits (0: the empty one); `list_of` has those that can't be said so.
+struct Numbers {
+    region: u8,
+    source: u32,
+    string: u8,
+    target: u32,
+    route: u8,
+    list: u16,
+    placing: u16,
+    outer: u64,
+}
+
+// What an answer is asked for. A new setup has no stored one, and no source argument.
 struct Trial {
     way: u8,
     broken: bool,
-    maker: Maker,
-    stored: Setup,
+    maker: u16,
+    at: u32,
+    stored: Numbers,
     source_arg: u32,
+    string: u8,
     target_arg: u32,
 }
 
-// A number, 0 for a setup that is made; and the setup: a blank one beside a refusal.
-struct Expected {
-    number: u8,
-    setup: Setup,
+// The first three bytes and the length of a string; the bytes after them are all the digit 0.
+struct Dial {
+    first: u8,
+    second: u8,
+    third: u8,
+    len: usize,
 }
 
 fn say(text: &[u8]) {
@@ -51,165 +102,262 @@ fn say_number(n: u32) {
     io::print_decimal(STDOUT_FILENO, n as u64);
 }
 
-// ---- setups
+// ---- what the numbers stand for
 
-fn nothing_listed() -> Zone {
-    Zone {
-        types: [0u8; 32],
-        len: 0,
+fn bytes(first: u8, second: u8, third: u8, len: usize) -> Dial {
+    Dial {
+        first,
+        second,
+        third,
+        len,
     }
 }
 
-// A list of at most 32 types.
-fn listed(types: &[u8]) -> Zone {
-    let d = setup::dial(types);
-    let places = d.symbols;
-    Zone {
-        types: places,
-        len: d.len,
+// "300", "3x", "0" 32 times and 33 times; bytes beside the symbols, and others.
+fn text(n: u8) -> Dial {
+    match n {
+        0 => bytes(48, 48, 48, 0),
+        1 => bytes(51, 48, 48, 3),
+        2 => bytes(51, 120, 48, 2),
+        3 => bytes(48, 48, 48, 32),
+        4 => bytes(48, 48, 48, 33),
+        5 => bytes(42, 35, 48, 2),
+        6 => bytes(47, 48, 48, 1),
+        7 => bytes(58, 48, 48, 1),
+        8 => bytes(48, 48, 32, 3),
+        9 => bytes(35, 57, 48, 2),
+        _ => bytes(57, 48, 48, 1),
     }
 }
 
-// A setup with no placing type and no outer address.
-fn plain(
-    region: Region,
-    source: u32,
-    string: &[u8],
-    target: u32,
-    route: Route,
-    list: Zone,
-) -> Setup {
+// The argument's bytes: as many of these as it is long.
+fn argument(t: Dial) -> [u8; 33] {
+    let mut all = [48u8; 33];
+    all[0] = t.first;
+    all[1] = t.second;
+    all[2] = t.third;
+    all
+}
+
+// The string as a setup holds it, of no symbols, of one, two, three, or of 32 digits.
+fn symbols_of(t: Dial) -> [u8; 32] {
+    let mut all = [0u8; 32];
+    if 3 < t.len {
+        return [48u8; 32];
+    }
+    if 0 < t.len {
+        all[0] = t.first;
+    }
+    if 1 < t.len {
+        all[1] = t.second;
+    }
+    if 2 < t.len {
+        all[2] = t.third;
+    }
+    all
+}
+
+fn small(n: usize) -> u8 {
+    if n < 256 { n as u8 } else { 255 }
+}
+
+// Strings that no argument can be: too long, another symbol, and another symbol past the length.
+fn dialled_of(n: u8) -> Dialled {
+    match n {
+        100 => Dialled {
+            symbols: [57u8; 32],
+            len: 33,
+        },
+        101 => Dialled {
+            symbols: [57u8; 32],
+            len: 255,
+        },
+        102 => Dialled {
+            symbols: [58u8; 32],
+            len: 1,
+        },
+        103 => Dialled {
+            symbols: [58u8; 32],
+            len: 0,
+        },
+        _ => {
+            let t = text(n);
+            Dialled {
+                symbols: symbols_of(t),
+                len: small(t.len),
+            }
+        }
+    }
+}
+
+fn types_of(first: u8, second: u8, third: u8, fourth: u8, len: u8) -> Zone {
+    let mut all = [0u8; 32];
+    all[0] = first;
+    all[1] = second;
+    all[2] = third;
+    all[3] = fourth;
+    Zone { types: all, len }
+}
+
+// 2 and 32; only 0; 32, 33 and 255 times 0; nines past a length of 0.
+fn odd_list(n: u16) -> Zone {
+    match n {
+        9232 => types_of(2, 32, 0, 0, 2),
+        9001 => types_of(0, 0, 0, 0, 1),
+        9032 => types_of(0, 0, 0, 0, 32),
+        9033 => types_of(0, 0, 0, 0, 33),
+        9255 => types_of(0, 0, 0, 0, 255),
+        _ => types_of(9, 9, 9, 9, 0),
+    }
+}
+
+fn list_of(n: u16) -> Zone {
+    match n {
+        0 => types_of(0, 0, 0, 0, 0),
+        4 => types_of(4, 0, 0, 0, 1),
+        12 => types_of(1, 2, 0, 0, 2),
+        24 => types_of(2, 4, 0, 0, 2),
+        42 => types_of(4, 2, 0, 0, 2),
+        124 => types_of(1, 2, 4, 0, 3),
+        542 => types_of(5, 4, 2, 0, 3),
+        999 => types_of(9, 9, 9, 0, 3),
+        1124 => types_of(1, 1, 2, 4, 4),
+        _ => odd_list(n),
+    }
+}
+
+fn region_of(n: u8) -> Region {
+    match n {
+        0 => Region::Source,
+        _ => Region::Target,
+    }
+}
+
+fn route_of(n: u8) -> Route {
+    match n {
+        0 => Route::Whole,
+        1 => Route::Suffix,
+        _ => Route::Listed,
+    }
+}
+
+fn placing_of(n: u16) -> Placing {
+    if n < 256 {
+        Placing::PlacedBy(n as u8)
+    } else {
+        Placing::NoPlacing
+    }
+}
+
+fn outer_of(n: u64) -> Outer {
+    if n < 4_294_967_296 {
+        Outer::OuterAt(n as u32)
+    } else {
+        Outer::NoOuter
+    }
+}
+
+fn setup_of(s: Numbers) -> Setup {
     Setup {
+        region: region_of(s.region),
+        source: s.source,
+        dialled: dialled_of(s.string),
+        target: s.target,
+        route: route_of(s.route),
+        list: list_of(s.list),
+        placing: placing_of(s.placing),
+        outer: outer_of(s.outer),
+    }
+}
+
+fn box_of(n: u16, at: u32) -> Maker {
+    if n < 256 {
+        return Maker::Feature(n as u8, at);
+    }
+    match n {
+        256 => Maker::Line(at),
+        257 => Maker::Trunk(at),
+        258 => Maker::Resource,
+        _ => Maker::Error,
+    }
+}
+
+// ---- setups by numbers
+
+// A list, with the string "300"; a whole route; a suffix.
+fn from_list(region: u8, source: u32, target: u32, list: u16) -> Numbers {
+    Numbers {
         region,
         source,
-        dialled: setup::dial(string),
+        string: S300,
         target,
-        route,
+        route: LIST,
         list,
-        placing: Placing::NoPlacing,
-        outer: Outer::NoOuter,
+        placing: NO_PLACING,
+        outer: NO_OUTER,
     }
 }
 
-fn with_outer(s: Setup, outer: Outer) -> Setup {
-    let region = s.region;
-    let dialled = s.dialled;
-    let route = s.route;
-    let list = s.list;
-    let placing = s.placing;
-    Setup {
+fn whole(region: u8, source: u32, string: u8, target: u32, outer: u64) -> Numbers {
+    Numbers {
         region,
-        source: s.source,
-        dialled,
-        target: s.target,
-        route,
-        list,
-        placing,
+        source,
+        string,
+        target,
+        route: WHOLE,
+        list: 0,
+        placing: NO_PLACING,
         outer,
     }
 }
 
-fn with_placing(s: Setup, placing: Placing) -> Setup {
-    let region = s.region;
-    let dialled = s.dialled;
-    let route = s.route;
-    let list = s.list;
-    let outer = s.outer;
-    Setup {
+fn suffix(region: u8, source: u32, target: u32, placing: u16) -> Numbers {
+    Numbers {
         region,
-        source: s.source,
-        dialled,
-        target: s.target,
-        route,
-        list,
+        source,
+        string: S300,
+        target,
+        route: SUFFIX,
+        list: 0,
         placing,
-        outer,
+        outer: NO_OUTER,
     }
 }
 
-fn with_dialled(s: Setup, dialled: Dialled) -> Setup {
-    let region = s.region;
-    let route = s.route;
-    let list = s.list;
-    let placing = s.placing;
-    let outer = s.outer;
-    Setup {
-        region,
-        source: s.source,
-        dialled,
-        target: s.target,
-        route,
-        list,
-        placing,
-        outer,
-    }
+fn with_outer(s: Numbers, outer: u64) -> Numbers {
+    let mut r = s;
+    r.outer = outer;
+    r
 }
 
-// A list in the source region, from 200 to 300; and in the target region.
-fn source_list(types: &[u8]) -> Setup {
-    plain(
-        Region::Source,
-        200,
-        b"300",
-        300,
-        Route::Listed,
-        listed(types),
-    )
+fn with_placing(s: Numbers, placing: u16) -> Numbers {
+    let mut r = s;
+    r.placing = placing;
+    r
 }
 
-fn target_list(types: &[u8]) -> Setup {
-    plain(
-        Region::Target,
-        200,
-        b"300",
-        300,
-        Route::Listed,
-        listed(types),
-    )
+fn with_string(s: Numbers, string: u8) -> Numbers {
+    let mut r = s;
+    r.string = string;
+    r
 }
 
-fn source_whole() -> Setup {
-    plain(
-        Region::Source,
-        200,
-        b"300",
-        300,
-        Route::Whole,
-        nothing_listed(),
-    )
+// In the source region from 200 to 300, and in the target region.
+fn source_list(list: u16) -> Numbers {
+    from_list(SOURCE, 200, 300, list)
 }
 
-fn source_suffix(placing: Placing) -> Setup {
-    with_placing(
-        plain(
-            Region::Source,
-            200,
-            b"300",
-            300,
-            Route::Suffix,
-            nothing_listed(),
-        ),
-        placing,
-    )
+fn target_list(list: u16) -> Numbers {
+    from_list(TARGET, 200, 300, list)
 }
 
-// What is sent to reverse a source setup by type 4 at 200: to 200, suffix after 4.
-fn back(source: u32, string: &[u8]) -> Setup {
-    with_placing(
-        plain(
-            Region::Target,
-            source,
-            string,
-            200,
-            Route::Suffix,
-            nothing_listed(),
-        ),
-        Placing::PlacedBy(4),
-    )
+// What type 4 at 200 sends to reverse a source setup: to 200, suffix after 4.
+fn back(source: u32, string: u8) -> Numbers {
+    with_string(suffix(TARGET, source, 200, 4), string)
 }
 
-fn blank() -> Setup {
-    plain(Region::Source, 0, b"", 0, Route::Whole, nothing_listed())
+fn blank() -> Numbers {
+    whole(SOURCE, 0, EMPTY, 0, NO_OUTER)
 }
 
 // ---- whether two setups are the same, in every place
@@ -380,7 +528,11 @@ fn say_type(t: u8) {
 fn say_list(z: Zone) {
     let types = z.types;
     let len = z.len as usize;
-    say(b", list");
+    if len == 0 {
+        say(b", empty list");
+    } else {
+        say(b", list");
+    }
     for i in 0usize..32usize {
         if i < len {
             say_type(types[i]);
@@ -452,32 +604,34 @@ fn say_stored(x: Trial) {
     let stored = x.stored;
     if x.way != NEW {
         say(b" from ");
-        say_setup(stored);
+        say_setup(setup_of(stored));
         say(b" with ");
         say_number(x.source_arg);
     }
 }
 
-fn say_trial(x: Trial, string: &[u8]) {
-    let maker = x.maker;
+fn say_trial(x: Trial) {
     say_way(x.way);
-    say_box(maker);
+    say_box(box_of(x.maker, x.at));
     if x.broken {
         say(b" in a plan with a count of 7");
     }
     say_stored(x);
+}
+
+fn say_arguments(string: &[u8], target_arg: u32) {
     say(b" \"");
     say(string);
     say(b"\" ");
-    say_number(x.target_arg);
+    say_number(target_arg);
 }
 
-fn say_expected(e: Expected) {
+fn say_expected(number: u8, s: Setup) {
     say(b": expected ");
-    if e.number == 0 {
-        say_setup(e.setup);
+    if number == 0 {
+        say_setup(s);
     } else {
-        say_number(e.number as u32);
+        say_number(number as u32);
     }
 }
 
@@ -513,11 +667,12 @@ fn plan_for(broken: bool) -> Plan {
 
 fn answer_of(x: Trial, string: &[u8]) -> Answer {
     let plan = plan_for(x.broken);
-    let maker = x.maker;
-    let stored = x.stored;
+    let maker = box_of(x.maker, x.at);
     if x.way == NEW {
         return making::new_setup(plan, maker, string, x.target_arg);
     }
+    let numbers = x.stored;
+    let stored = setup_of(numbers);
     if x.way == CONTINUED {
         return making::continued_setup(plan, maker, stored, x.source_arg, string, x.target_arg);
     }
@@ -546,11 +701,10 @@ fn placed_right(o: Outcome) -> bool {
     }
 }
 
-fn as_expected(a: Answer, e: Expected) -> bool {
+fn as_expected(a: Answer, number: u8, wanted: Setup) -> bool {
     let outcome = a.outcome;
     let got = a.setup;
-    let wanted = e.setup;
-    if number_of(outcome) != e.number {
+    if number_of(outcome) != number {
         return false;
     }
     if !placed_right(outcome) {
@@ -560,97 +714,86 @@ fn as_expected(a: Answer, e: Expected) -> bool {
 }
 
 fn counted(t: Tally, right: bool) -> Tally {
-    if right {
-        Tally {
-            tried: std::num::wrapping_add_u32(t.tried, 1),
-            right: std::num::wrapping_add_u32(t.right, 1),
-        }
-    } else {
-        Tally {
-            tried: std::num::wrapping_add_u32(t.tried, 1),
-            right: t.right,
-        }
-    }
-}
-
-fn verdict(t: Tally, right: bool) -> Tally {
+    let mut r = t;
+    r.tried = std::num::wrapping_add_u32(t.tried, 1);
     if right {
         say(b", right\n");
+        r.right = std::num::wrapping_add_u32(t.right, 1);
     } else {
         say(b", WRONG\n");
     }
-    counted(t, right)
+    r
 }
 
-fn tell(t: Tally, x: Trial, string: &[u8], e: Expected) -> Tally {
+fn tell(t: Tally, x: Trial, string: &[u8], number: u8, s: Numbers) -> Tally {
+    let wanted = setup_of(s);
     let a = answer_of(x, string);
-    say_trial(x, string);
-    say_expected(e);
+    say_trial(x);
+    say_arguments(string, x.target_arg);
+    say_expected(number, wanted);
     say_answer(a);
-    verdict(t, as_expected(a, e))
+    counted(t, as_expected(a, number, wanted))
 }
 
-fn refused(number: u8) -> Expected {
-    Expected {
-        number,
-        setup: blank(),
+// A number, 0 for a setup that is made; and the setup: a blank one beside a refusal.
+fn expect(t: Tally, x: Trial, number: u8, s: Numbers) -> Tally {
+    let string = text(x.string);
+    let all = argument(string);
+    let len = string.len;
+    if len <= 33 {
+        tell(t, x, &all[..len], number, s)
+    } else {
+        t
     }
 }
 
-fn made(setup: Setup) -> Expected {
-    Expected { number: 0, setup }
+fn refused(t: Tally, x: Trial, number: u8) -> Tally {
+    expect(t, x, number, blank())
 }
 
-fn new(t: Tally, maker: Maker, string: &[u8], target_arg: u32, e: Expected) -> Tally {
-    let x = Trial {
+fn made(t: Tally, x: Trial, s: Numbers) -> Tally {
+    expect(t, x, 0, s)
+}
+
+fn new(maker: u16, at: u32, string: u8, target_arg: u32) -> Trial {
+    Trial {
         way: NEW,
         broken: false,
         maker,
+        at,
         stored: blank(),
         source_arg: 0,
+        string,
         target_arg,
-    };
-    tell(t, x, string, e)
+    }
 }
 
-fn continued(
-    t: Tally,
-    maker: Maker,
-    stored: Setup,
-    source_arg: u32,
-    string: &[u8],
-    target_arg: u32,
-    e: Expected,
-) -> Tally {
-    let x = Trial {
-        way: CONTINUED,
+// With no arguments.
+fn plainly(way: u8, maker: u16, at: u32, stored: Numbers) -> Trial {
+    Trial {
+        way,
         broken: false,
         maker,
+        at,
         stored,
-        source_arg,
-        target_arg,
-    };
-    tell(t, x, string, e)
+        source_arg: 0,
+        string: EMPTY,
+        target_arg: 0,
+    }
 }
 
-fn reversed(
-    t: Tally,
-    maker: Maker,
-    stored: Setup,
-    source_arg: u32,
-    string: &[u8],
-    target_arg: u32,
-    e: Expected,
-) -> Tally {
-    let x = Trial {
-        way: REVERSED,
+// By type 4 at 200, with these arguments.
+fn given(way: u8, stored: Numbers, source_arg: u32, string: u8, target_arg: u32) -> Trial {
+    Trial {
+        way,
         broken: false,
-        maker,
+        maker: 4,
+        at: 200,
         stored,
         source_arg,
+        string,
         target_arg,
-    };
-    tell(t, x, string, e)
+    }
 }
 
 // ---- each refusal of each way, alone and beside each later one
@@ -697,17 +840,15 @@ fn either(n: u8, first: u8, second: u8) -> bool {
     n == second
 }
 
-// A box that may not: its address is a wrong one for its kind where the input has 3 as well.
-fn other_box(way: u8, wrong: bool) -> Maker {
-    match way {
-        0 => Maker::Resource,
-        1 => Maker::Line(if wrong { 999 } else { 200 }),
-        _ => Maker::Trunk(if wrong { 200 } else { 555 }),
+// A box that may not; or a feature box, whose type 9 does not exist and whose type 1 is not reversible.
+fn maker_with(way: u8, first: u8, second: u8) -> u16 {
+    if either(2, first, second) {
+        return match way {
+            0 => RESOURCE,
+            1 => LINE,
+            _ => TRUNK,
+        };
     }
-}
-
-// Type 9 does not exist, and type 1 is not reversible.
-fn box_type(first: u8, second: u8) -> u8 {
     if either(1, first, second) {
         return 9;
     }
@@ -717,38 +858,29 @@ fn box_type(first: u8, second: u8) -> u8 {
     4
 }
 
-fn box_with(way: u8, first: u8, second: u8) -> Maker {
-    let wrong = either(3, first, second);
-    if either(2, first, second) {
-        return other_box(way, wrong);
+// 999 is nobody's address, and 200 not a trunk's.
+fn address_with(way: u8, first: u8, second: u8) -> u32 {
+    let trunk = way == REVERSED && either(2, first, second);
+    if either(3, first, second) {
+        return if trunk { 200 } else { 999 };
     }
-    Maker::Feature(box_type(first, second), if wrong { 999 } else { 200 })
-}
-
-fn address_of(m: Maker) -> u32 {
-    match m {
-        Maker::Feature(_, a) => a,
-        Maker::Line(a) => a,
-        Maker::Trunk(a) => a,
-        Maker::Resource => 0,
-        Maker::Error => 0,
-    }
+    if trunk { 555 } else { 200 }
 }
 
 // With nothing left, in the source region: with an outer of 0 it has a fault, with another source it is not the box's.
-fn stored_with(at: u32, first: u8, second: u8) -> Setup {
-    let s = plain(
-        Region::Source,
+fn stored_with(at: u32, first: u8, second: u8) -> Numbers {
+    from_list_with(
         if either(6, first, second) { 300 } else { at },
-        b"300",
-        300,
-        Route::Listed,
-        nothing_listed(),
-    );
-    if either(5, first, second) {
-        return with_outer(s, Outer::OuterAt(0));
-    }
-    s
+        if either(5, first, second) {
+            0
+        } else {
+            NO_OUTER
+        },
+    )
+}
+
+fn from_list_with(source: u32, outer: u64) -> Numbers {
+    with_outer(from_list(SOURCE, source, 300, 0), outer)
 }
 
 // The argument for the routing address is the box's own; the other one is too large.
@@ -765,32 +897,19 @@ fn large_argument(first: u8, second: u8) -> u32 {
 }
 
 // A source setup is continued in the source region, and reversed to the target region.
-fn source_with(way: u8, at: u32, first: u8, second: u8) -> u32 {
-    if way == CONTINUED {
-        own_argument(at, first, second)
-    } else {
-        large_argument(first, second)
-    }
-}
-
-fn target_with(way: u8, at: u32, first: u8, second: u8) -> u32 {
-    if way == REVERSED {
-        own_argument(at, first, second)
-    } else {
-        large_argument(first, second)
-    }
-}
-
 fn trial_with(way: u8, first: u8, second: u8) -> Trial {
-    let maker = box_with(way, first, second);
-    let at = address_of(maker);
+    let at = address_with(way, first, second);
+    let own = own_argument(at, first, second);
+    let large = large_argument(first, second);
     Trial {
         way,
         broken: either(23, first, second),
-        maker,
+        maker: maker_with(way, first, second),
+        at,
         stored: stored_with(at, first, second),
-        source_arg: source_with(way, at, first, second),
-        target_arg: target_with(way, at, first, second),
+        source_arg: if way == CONTINUED { own } else { large },
+        string: if either(7, first, second) { BAD } else { EMPTY },
+        target_arg: if way == REVERSED { own } else { large },
     }
 }
 
@@ -804,12 +923,7 @@ fn both(t: Tally, way: u8, first: u8, second: u8) -> Tally {
         say_number(second as u32);
         say(b": ");
     }
-    let x = trial_with(way, first, second);
-    if either(7, first, second) {
-        tell(t, x, b"3x", refused(first))
-    } else {
-        tell(t, x, b"", refused(first))
-    }
+    refused(t, trial_with(way, first, second), first)
 }
 
 fn both_or_never(t: Tally, way: u8, first: u8, second: u8) -> Tally {
@@ -857,556 +971,299 @@ fn all_refusals(t: Tally) -> Tally {
     refusals(refusals(refusals(t, NEW), CONTINUED), REVERSED)
 }
 
-// ---- P5 to P8
-
-fn p5(t: Tally) -> Tally {
-    say(b"P5: ");
-    new(
-        t,
-        Maker::Line(200),
-        b"300",
-        0,
-        made(with_outer(
-            plain(
-                Region::Source,
-                200,
-                b"300",
-                0,
-                Route::Whole,
-                nothing_listed(),
-            ),
-            Outer::OuterAt(200),
-        )),
-    )
-}
-
-fn p6(t: Tally) -> Tally {
-    say(b"P6: ");
-    continued(
-        t,
-        Maker::Feature(4, 200),
-        source_list(b""),
-        0,
-        b"",
-        0,
-        made(source_list(b"")),
-    )
-}
-
-fn p7(t: Tally) -> Tally {
-    say(b"P7: ");
-    continued(
-        t,
-        Maker::Feature(5, 300),
-        target_list(&[4, 2]),
-        0,
-        b"",
-        700,
-        made(plain(
-            Region::Target,
-            200,
-            b"300",
-            700,
-            Route::Whole,
-            nothing_listed(),
-        )),
-    )
-}
-
-fn p7_again(t: Tally) -> Tally {
-    let s = plain(
-        Region::Target,
-        200,
-        b"300",
-        700,
-        Route::Listed,
-        nothing_listed(),
-    );
-    say(b"P7, its continuation: ");
-    continued(t, Maker::Feature(3, 700), s, 0, b"", 0, made(s))
-}
-
-fn p8(t: Tally) -> Tally {
-    say(b"P8: ");
-    reversed(
-        t,
-        Maker::Feature(4, 200),
-        source_list(b""),
-        0,
-        b"",
-        0,
-        made(back(300, b"300")),
-    )
-}
+// ---- P5 to P8, with the continuation of P7
 
 fn papers(t: Tally) -> Tally {
-    say(b"-- the setups of P5 to P8\n");
-    p8(p7_again(p7(p6(p5(t)))))
+    let s = from_list(TARGET, 200, 700, 0);
+    say(b"-- the setups of P5, P6, P7, the continuation of P7, and P8\n");
+    let t = made(t, new(LINE, 200, S300, 0), whole(SOURCE, 200, S300, 0, 200));
+    let t = made(
+        t,
+        plainly(CONTINUED, 4, 200, source_list(0)),
+        source_list(0),
+    );
+    let t = made(t, to_700(), whole(TARGET, 200, S300, 700, NO_OUTER));
+    let t = made(t, plainly(CONTINUED, 3, 700, s), s);
+    made(
+        t,
+        plainly(REVERSED, 4, 200, source_list(0)),
+        back(300, S300),
+    )
+}
+
+// Type 5 at 300 continues to 700.
+fn to_700() -> Trial {
+    let mut x = plainly(CONTINUED, 5, 300, target_list(42));
+    x.target_arg = 700;
+    x
 }
 
 // ---- the boxes
 
 // A new setup to 900.
-fn to_900(source: u32, string: &[u8]) -> Expected {
-    made(with_outer(
-        plain(
-            Region::Source,
-            source,
-            string,
-            900,
-            Route::Whole,
-            nothing_listed(),
-        ),
-        Outer::OuterAt(source),
-    ))
+fn to_900(source: u32, string: u8) -> Numbers {
+    whole(SOURCE, source, string, 900, source as u64)
 }
 
 fn sources(t: Tally) -> Tally {
-    let t = new(t, Maker::Trunk(556), b"", 900, to_900(556, b""));
-    let t = new(t, Maker::Feature(4, 700), b"9", 900, to_900(700, b"9"));
-    let t = new(t, Maker::Line(555), b"", 900, refused(3));
-    let t = new(t, Maker::Trunk(200), b"", 900, refused(3));
-    let t = new(t, Maker::Line(0), b"", 900, refused(3));
-    let t = new(t, Maker::Feature(4, 0), b"", 900, refused(3));
-    let t = new(t, Maker::Trunk(1_000_000_000), b"", 900, refused(3));
-    new(
-        t,
-        Maker::Trunk(1_000_000_000),
-        b"x",
-        1_000_000_000,
-        refused(3),
-    )
+    let t = made(t, new(TRUNK, 556, EMPTY, 900), to_900(556, EMPTY));
+    let t = made(t, new(4, 700, 10, 900), to_900(700, 10));
+    let t = refused(t, new(LINE, 555, EMPTY, 900), 3);
+    let t = refused(t, new(TRUNK, 200, EMPTY, 900), 3);
+    let t = refused(t, new(LINE, 0, EMPTY, 900), 3);
+    let t = refused(t, new(4, 0, EMPTY, 900), 3);
+    let t = refused(t, new(TRUNK, 1_000_000_000, EMPTY, 900), 3);
+    refused(t, new(TRUNK, 1_000_000_000, BAD, 1_000_000_000), 3)
 }
 
 fn types(t: Tally) -> Tally {
-    let s = source_list(b"");
-    let t = new(t, Maker::Feature(0, 200), b"", 900, refused(1));
-    let t = new(t, Maker::Feature(6, 200), b"", 900, refused(1));
-    let t = new(t, Maker::Feature(32, 200), b"", 900, refused(1));
-    let t = new(t, Maker::Feature(255, 200), b"", 900, refused(1));
-    let t = reversed(t, Maker::Feature(5, 200), s, 0, b"", 0, refused(4));
-    reversed(
+    let t = refused(t, new(0, 200, EMPTY, 900), 1);
+    let t = refused(t, new(6, 200, EMPTY, 900), 1);
+    let t = refused(t, new(32, 200, EMPTY, 900), 1);
+    let t = refused(t, new(255, 200, EMPTY, 900), 1);
+    let t = refused(t, plainly(REVERSED, 5, 200, source_list(0)), 4);
+    made(
         t,
-        Maker::Feature(2, 300),
-        s,
-        0,
-        b"",
-        0,
-        made(with_placing(
-            plain(
-                Region::Target,
-                300,
-                b"300",
-                300,
-                Route::Suffix,
-                nothing_listed(),
-            ),
-            Placing::PlacedBy(2),
-        )),
+        plainly(REVERSED, 2, 300, source_list(0)),
+        suffix(TARGET, 300, 300, 2),
     )
 }
 
-fn no_makers(t: Tally) -> Tally {
-    let s = source_list(b"");
-    let t = new(t, Maker::Resource, b"", 900, refused(2));
-    let t = new(t, Maker::Error, b"", 900, refused(2));
-    let t = continued(t, Maker::Error, s, 0, b"", 0, refused(2));
-    let t = reversed(t, Maker::Error, s, 0, b"", 0, refused(2));
-    let t = continued(t, Maker::Resource, s, 0, b"", 0, refused(2));
-    reversed(t, Maker::Resource, s, 0, b"", 0, refused(2))
+// Neither continued nor reversed by the box.
+fn neither(t: Tally, maker: u16, at: u32) -> Tally {
+    let s = source_list(0);
+    let t = refused(t, plainly(CONTINUED, maker, at, s), 2);
+    refused(t, plainly(REVERSED, maker, at, s), 2)
 }
 
-fn interfaces(t: Tally) -> Tally {
-    let s = source_list(b"");
-    let t = continued(t, Maker::Line(200), s, 0, b"", 0, refused(2));
-    let t = continued(t, Maker::Line(0), s, 0, b"", 0, refused(2));
-    let t = continued(t, Maker::Trunk(555), s, 0, b"", 0, refused(2));
-    let t = reversed(t, Maker::Line(200), s, 0, b"", 0, refused(2));
-    let t = reversed(t, Maker::Line(0), s, 0, b"", 0, refused(2));
-    reversed(t, Maker::Trunk(555), s, 0, b"", 0, refused(2))
+fn no_makers(t: Tally) -> Tally {
+    let t = refused(t, new(RESOURCE, 0, EMPTY, 900), 2);
+    let t = refused(t, new(ERROR, 0, EMPTY, 900), 2);
+    let t = neither(neither(t, ERROR, 0), RESOURCE, 0);
+    neither(neither(neither(t, LINE, 200), LINE, 0), TRUNK, 555)
 }
 
 fn boxes(t: Tally) -> Tally {
     say(
         b"-- boxes: what a line or trunk names, a box that does not subscribe to its type, types that do not exist, boxes that make nothing\n",
     );
-    interfaces(no_makers(types(sources(t))))
+    no_makers(types(sources(t)))
 }
 
 // ---- strings and addresses at their bounds
 
-fn new_bounds(t: Tally) -> Tally {
-    let line = Maker::Line(200);
-    let t = new(
-        t,
-        line,
-        b"01234567890123456789012345678901",
-        900,
-        to_900(200, b"01234567890123456789012345678901"),
-    );
-    let t = new(
-        t,
-        line,
-        b"012345678901234567890123456789012",
-        900,
-        refused(7),
-    );
-    let t = new(t, line, b"*#", 900, to_900(200, b"*#"));
-    let t = new(t, line, b"/", 900, refused(7));
-    let t = new(t, line, b":", 900, refused(7));
-    let t = new(t, line, b"300 ", 900, refused(7));
-    new(t, line, b"x", 1_000_000_000, refused(7))
+fn strings(t: Tally) -> Tally {
+    let t = made(t, new(LINE, 200, OF_32, 900), to_900(200, OF_32));
+    let t = refused(t, new(LINE, 200, OF_33, 900), 7);
+    let t = made(t, new(LINE, 200, 5, 900), to_900(200, 5));
+    let t = refused(t, new(LINE, 200, 6, 900), 7);
+    let t = refused(t, new(LINE, 200, 7, 900), 7);
+    let t = refused(t, new(LINE, 200, 8, 900), 7);
+    refused(t, new(LINE, 200, BAD, 1_000_000_000), 7)
 }
+
+fn further_strings(t: Tally) -> Tally {
+    let s = source_list(0);
+    let t = made(t, given(REVERSED, s, 0, OF_32, 0), back(300, OF_32));
+    let t = refused(t, given(CONTINUED, s, 0, OF_33, 0), 7);
+    refused(t, given(REVERSED, s, 0, OF_33, 0), 7)
+}
+
+const FAR: u32 = 999_999_999;
 
 fn new_addresses(t: Tally) -> Tally {
-    let far = with_outer(
-        plain(
-            Region::Source,
-            200,
-            b"",
-            999_999_999,
-            Route::Whole,
-            nothing_listed(),
-        ),
-        Outer::OuterAt(200),
+    let t = made(
+        t,
+        new(LINE, 200, EMPTY, FAR),
+        whole(SOURCE, 200, EMPTY, FAR, 200),
     );
-    let t = new(t, Maker::Line(200), b"", 999_999_999, made(far));
-    let t = new(t, Maker::Line(200), b"", 1_000_000_000, refused(9));
-    new(t, Maker::Line(200), b"", 4_294_967_295, refused(9))
+    let t = refused(t, new(LINE, 200, EMPTY, 1_000_000_000), 9);
+    refused(t, new(LINE, 200, EMPTY, 4_294_967_295), 9)
 }
 
-fn continued_addresses(t: Tally) -> Tally {
-    let b = Maker::Feature(4, 200);
-    let s = source_list(b"");
-    let far = with_outer(
-        plain(
-            Region::Source,
-            999_999_999,
-            b"300",
-            999_999_999,
-            Route::Whole,
-            nothing_listed(),
-        ),
-        Outer::OuterAt(200),
-    );
-    let t = continued(t, b, s, 999_999_999, b"", 999_999_999, made(far));
-    let t = continued(t, b, s, 1_000_000_000, b"", 999_999_999, refused(9));
-    continued(t, b, s, 999_999_999, b"", 1_000_000_000, refused(9))
-}
-
-fn reversed_addresses(t: Tally) -> Tally {
-    let b = Maker::Feature(4, 200);
-    let s = source_list(b"");
-    let far = plain(
-        Region::Target,
-        999_999_999,
-        b"300",
-        999_999_999,
-        Route::Whole,
-        nothing_listed(),
-    );
-    let t = reversed(t, b, s, 999_999_999, b"", 999_999_999, made(far));
-    let t = reversed(t, b, s, 1_000_000_000, b"", 999_999_999, refused(9));
-    reversed(t, b, s, 999_999_999, b"", 1_000_000_000, refused(9))
-}
-
-fn longer_strings(t: Tally) -> Tally {
-    let b = Maker::Feature(4, 200);
-    let s = source_list(b"");
-    let long = b"01234567890123456789012345678901";
-    let t = reversed(t, b, s, 0, long, 0, made(back(300, long)));
-    let longer = b"012345678901234567890123456789012";
-    let t = continued(t, b, s, 0, longer, 0, refused(7));
-    reversed(t, b, s, 0, longer, 0, refused(7))
+fn addresses(t: Tally, way: u8, far: Numbers) -> Tally {
+    let s = source_list(0);
+    let t = made(t, given(way, s, FAR, EMPTY, FAR), far);
+    let t = refused(t, given(way, s, 1_000_000_000, EMPTY, FAR), 9);
+    refused(t, given(way, s, FAR, EMPTY, 1_000_000_000), 9)
 }
 
 fn bounds(t: Tally) -> Tally {
     say(
         b"-- strings of 32 and 33 symbols and of other symbols, addresses of 999,999,999 and more\n",
     );
-    let t = new_addresses(new_bounds(t));
-    longer_strings(reversed_addresses(continued_addresses(t)))
+    let t = new_addresses(further_strings(strings(t)));
+    let t = addresses(t, CONTINUED, whole(SOURCE, FAR, S300, FAR, 200));
+    addresses(t, REVERSED, whole(TARGET, FAR, S300, FAR, NO_OUTER))
 }
 
 // ---- arguments given and kept
 
 // The route is kept and an outer address of the stored setup is not.
 fn kept(t: Tally) -> Tally {
-    let s = source_list(&[2, 4]);
-    let stored = with_outer(s, Outer::OuterAt(200));
-    let t = continued(t, Maker::Feature(1, 200), stored, 0, b"", 0, made(s));
-    let u = target_list(&[5, 4, 2]);
-    continued(t, Maker::Feature(3, 300), u, 0, b"", 0, made(u))
+    let s = source_list(24);
+    let t = made(t, plainly(CONTINUED, 1, 200, with_outer(s, 200)), s);
+    let u = target_list(542);
+    made(t, plainly(CONTINUED, 3, 300, u), u)
 }
 
 // A string takes the stored one's place, an empty one keeps it; the other address likewise.
-fn given(t: Tally) -> Tally {
-    let b = Maker::Feature(4, 200);
-    let s = source_list(b"");
-    let changed = plain(
-        Region::Source,
-        200,
-        b"#9",
-        900,
-        Route::Listed,
-        nothing_listed(),
+fn changed(t: Tally) -> Tally {
+    let s = source_list(0);
+    let t = made(
+        t,
+        given(CONTINUED, s, 0, 9, 900),
+        with_string(from_list(SOURCE, 200, 900, 0), 9),
     );
-    let t = continued(t, b, s, 0, b"#9", 900, made(changed));
-    let u = target_list(&[4, 2]);
-    let other = plain(
-        Region::Target,
-        555,
-        b"300",
-        300,
-        Route::Listed,
-        listed(&[4, 2]),
-    );
-    continued(t, Maker::Feature(5, 300), u, 555, b"", 0, made(other))
+    let u = from_list(TARGET, 300, 200, 42);
+    made(
+        t,
+        given(CONTINUED, u, 555, EMPTY, 0),
+        from_list(TARGET, 555, 200, 42),
+    )
 }
 
 // A new routing address in the source region: whole, and outer is the box's address.
 fn rerouted(t: Tally) -> Tally {
-    let b = Maker::Feature(4, 200);
-    let s = source_list(b"");
-    let elsewhere = with_outer(
-        plain(
-            Region::Source,
-            555,
-            b"300",
-            300,
-            Route::Whole,
-            nothing_listed(),
-        ),
-        Outer::OuterAt(200),
+    let s = source_list(0);
+    let t = made(
+        t,
+        given(CONTINUED, s, 555, EMPTY, 0),
+        whole(SOURCE, 555, S300, 300, 200),
     );
-    let t = continued(t, b, s, 555, b"", 0, made(elsewhere));
-    let t = continued(t, b, s, 200, b"", 0, refused(8));
-    let own = plain(
-        Region::Source,
-        200,
-        b"300",
-        200,
-        Route::Listed,
-        nothing_listed(),
-    );
-    continued(t, b, s, 0, b"", 200, made(own))
+    let t = refused(t, given(CONTINUED, s, 200, EMPTY, 0), 8);
+    made(
+        t,
+        given(CONTINUED, s, 0, EMPTY, 200),
+        from_list(SOURCE, 200, 200, 0),
+    )
 }
 
 // The own address as an argument is told by the region that is turned to.
 fn turned_to_target(t: Tally) -> Tally {
-    let b = Maker::Feature(4, 200);
-    let s = source_list(b"");
-    let t = reversed(t, b, s, 200, b"", 0, made(back(200, b"300")));
-    let t = reversed(t, b, s, 0, b"", 200, refused(8));
-    let away = plain(
-        Region::Target,
-        300,
-        b"300",
-        700,
-        Route::Whole,
-        nothing_listed(),
-    );
-    reversed(t, b, s, 0, b"", 700, made(away))
+    let s = source_list(0);
+    let t = made(t, given(REVERSED, s, 200, EMPTY, 0), back(200, S300));
+    let t = refused(t, given(REVERSED, s, 0, EMPTY, 200), 8);
+    made(
+        t,
+        given(REVERSED, s, 0, EMPTY, 700),
+        whole(TARGET, 300, S300, 700, NO_OUTER),
+    )
 }
 
 // The stored routing address need not be the box's.
 fn turned_to_source(t: Tally) -> Tally {
-    let b = Maker::Feature(4, 200);
-    let s = target_list(&[4, 2]);
-    let caller = plain(
-        Region::Source,
-        200,
-        b"300",
-        200,
-        Route::Suffix,
-        nothing_listed(),
-    );
-    let to_200 = with_placing(caller, Placing::PlacedBy(4));
-    let t = reversed(t, b, s, 0, b"", 0, made(to_200));
-    let t = reversed(t, b, s, 0, b"", 200, made(to_200));
-    let t = reversed(t, b, s, 200, b"", 0, refused(8));
-    let away = plain(
-        Region::Source,
-        555,
-        b"300",
-        200,
-        Route::Whole,
-        nothing_listed(),
-    );
-    let away = with_outer(away, Outer::OuterAt(200));
-    reversed(t, b, s, 555, b"", 0, made(away))
+    let s = target_list(42);
+    let to_200 = suffix(SOURCE, 200, 200, 4);
+    let t = made(t, given(REVERSED, s, 0, EMPTY, 0), to_200);
+    let t = made(t, given(REVERSED, s, 0, EMPTY, 200), to_200);
+    let t = refused(t, given(REVERSED, s, 200, EMPTY, 0), 8);
+    made(
+        t,
+        given(REVERSED, s, 555, EMPTY, 0),
+        whole(SOURCE, 555, S300, 200, 200),
+    )
 }
 
 // A setup whose target is still in its string: the source of the reversed one is 0.
 fn no_target_yet(t: Tally) -> Tally {
-    let s = with_outer(
-        plain(
-            Region::Source,
-            200,
-            b"300",
-            0,
-            Route::Whole,
-            nothing_listed(),
-        ),
-        Outer::OuterAt(200),
-    );
-    reversed(
+    made(
         t,
-        Maker::Feature(4, 200),
-        s,
-        0,
-        b"",
-        0,
-        made(back(0, b"300")),
+        plainly(REVERSED, 4, 200, whole(SOURCE, 200, S300, 0, 200)),
+        back(0, S300),
     )
 }
 
 fn arguments(t: Tally) -> Tally {
     say(b"-- arguments given and kept, the own address, what is turned\n");
-    let t = rerouted(given(kept(t)));
+    let t = rerouted(changed(kept(t)));
     no_target_yet(turned_to_source(turned_to_target(t)))
 }
 
-// ---- stored setups with each fault, and next to it
+// ---- stored setups with each fault, and next to it, continued and reversed by type 4 at 200
 
-// Neither continued nor reversed.
-fn faulty(t: Tally, s: Setup) -> Tally {
-    let b = Maker::Feature(4, 200);
-    let t = continued(t, b, s, 0, b"", 0, refused(5));
-    reversed(t, b, s, 0, b"", 0, refused(5))
+fn faulty(t: Tally, s: Numbers) -> Tally {
+    let t = refused(t, plainly(CONTINUED, 4, 200, s), 5);
+    refused(t, plainly(REVERSED, 4, 200, s), 5)
 }
 
 // Reversed, and then the rest of it does not count.
-fn faultless(t: Tally, s: Setup) -> Tally {
-    reversed(
-        t,
-        Maker::Feature(4, 200),
-        s,
-        0,
-        b"",
-        0,
-        made(back(300, b"300")),
-    )
+fn faultless(t: Tally, s: Numbers) -> Tally {
+    made(t, plainly(REVERSED, 4, 200, s), back(300, S300))
 }
 
 // Well formed, but no list: reversed only.
-fn no_list(t: Tally, s: Setup) -> Tally {
-    let t = continued(t, Maker::Feature(4, 200), s, 0, b"", 0, refused(5));
-    faultless(t, s)
-}
-
-fn from(region: Region, source: u32, target: u32) -> Setup {
-    plain(
-        region,
-        source,
-        b"300",
-        target,
-        Route::Listed,
-        nothing_listed(),
-    )
+fn no_list(t: Tally, s: Numbers) -> Tally {
+    faultless(refused(t, plainly(CONTINUED, 4, 200, s), 5), s)
 }
 
 fn address_faults(t: Tally) -> Tally {
-    let t = faulty(t, from(Region::Source, 0, 300));
-    let t = faulty(t, from(Region::Target, 200, 0));
-    let t = faulty(t, from(Region::Source, 1_000_000_000, 300));
-    let t = faulty(t, from(Region::Source, 200, 1_000_000_000));
-    let t = faulty(t, from(Region::Target, 1_000_000_000, 200));
-    faultless(t, from(Region::Source, 999_999_999, 300))
+    let t = faulty(t, from_list(SOURCE, 0, 300, 0));
+    let t = faulty(t, from_list(TARGET, 200, 0, 0));
+    let t = faulty(t, from_list(SOURCE, 1_000_000_000, 300, 0));
+    let t = faulty(t, from_list(SOURCE, 200, 1_000_000_000, 0));
+    let t = faulty(t, from_list(TARGET, 1_000_000_000, 200, 0));
+    faultless(t, from_list(SOURCE, FAR, 300, 0))
 }
 
 fn outer_faults(t: Tally) -> Tally {
-    let s = source_list(b"");
-    let t = faulty(t, with_outer(s, Outer::OuterAt(0)));
-    let t = faulty(t, with_outer(s, Outer::OuterAt(1_000_000_000)));
-    let t = faulty(t, with_outer(s, Outer::OuterAt(2_000_000_000)));
-    let t = faultless(t, with_outer(s, Outer::OuterAt(999_999_999)));
-    let u = target_list(b"");
-    let t = faulty(t, with_outer(u, Outer::OuterAt(200)));
-    faulty(t, with_outer(u, Outer::OuterAt(0)))
+    let s = source_list(0);
+    let t = faulty(t, with_outer(s, 0));
+    let t = faulty(t, with_outer(s, 1_000_000_000));
+    let t = faulty(t, with_outer(s, 2_000_000_000));
+    let t = faultless(t, with_outer(s, FAR as u64));
+    let u = target_list(0);
+    faulty(faulty(t, with_outer(u, 200)), with_outer(u, 0))
+}
+
+fn suffix_faulty(t: Tally, placing: u16) -> Tally {
+    faulty(t, suffix(SOURCE, 200, 300, placing))
 }
 
 fn placing_faults(t: Tally) -> Tally {
-    let s = source_list(b"");
-    let t = faulty(t, with_placing(s, Placing::PlacedBy(4)));
-    let t = faulty(t, with_placing(source_whole(), Placing::PlacedBy(4)));
-    let t = faulty(t, source_suffix(Placing::NoPlacing));
-    let t = faulty(t, source_suffix(Placing::PlacedBy(1)));
-    let t = faulty(t, source_suffix(Placing::PlacedBy(0)));
-    let t = faulty(t, source_suffix(Placing::PlacedBy(31)));
-    let t = faulty(t, source_suffix(Placing::PlacedBy(32)));
-    let t = faulty(t, source_suffix(Placing::PlacedBy(255)));
-    no_list(t, source_suffix(Placing::PlacedBy(2)))
+    let t = faulty(t, with_placing(source_list(0), 4));
+    let t = faulty(t, with_placing(whole(SOURCE, 200, S300, 300, NO_OUTER), 4));
+    let t = suffix_faulty(suffix_faulty(suffix_faulty(t, NO_PLACING), 1), 0);
+    let t = suffix_faulty(suffix_faulty(suffix_faulty(t, 31), 32), 255);
+    no_list(t, suffix(SOURCE, 200, 300, 2))
+}
+
+fn list_faulty(t: Tally, list: u16) -> Tally {
+    faulty(t, source_list(list))
 }
 
 // The source zone of 200 is 1, 2, 4.
 fn list_faults(t: Tally) -> Tally {
-    let t = faultless(t, source_list(&[4]));
-    let t = faultless(t, source_list(&[1, 2, 4]));
-    let t = faulty(t, source_list(&[1, 2]));
-    let t = faulty(t, source_list(&[4, 2]));
-    let t = faulty(t, source_list(&[1, 1, 2, 4]));
-    let t = faulty(t, source_list(&[2, 32]));
-    faulty(t, source_list(&[0]))
+    let t = faultless(faultless(t, source_list(4)), source_list(124));
+    let t = list_faulty(list_faulty(list_faulty(t, 12), 42), 1124);
+    let t = list_faulty(list_faulty(t, 9232), 9001);
+    list_faulty(list_faulty(list_faulty(t, 9032), 9033), 9255)
 }
 
-fn with_list(types: [u8; 32], len: u8) -> Setup {
-    plain(
-        Region::Source,
-        200,
-        b"300",
-        300,
-        Route::Listed,
-        Zone { types, len },
-    )
-}
-
-fn long_lists(t: Tally) -> Tally {
-    let t = faulty(t, with_list([0u8; 32], 32));
-    let t = faulty(t, with_list([0u8; 32], 33));
-    let t = faulty(t, with_list([0u8; 32], 255));
-    faultless(t, with_list([9u8; 32], 0))
-}
-
-fn string_with(symbols: [u8; 32], len: u8) -> Setup {
-    with_dialled(source_list(b""), Dialled { symbols, len })
+fn string_faulty(t: Tally, string: u8) -> Tally {
+    faulty(t, with_string(source_list(0), string))
 }
 
 fn string_faults(t: Tally) -> Tally {
-    let t = faulty(t, string_with([57u8; 32], 33));
-    let t = faulty(t, string_with([57u8; 32], 255));
-    let t = faulty(t, string_with([58u8; 32], 1));
-    let s = string_with([58u8; 32], 0);
-    reversed(
+    let t = string_faulty(string_faulty(string_faulty(t, 100), 101), 102);
+    made(
         t,
-        Maker::Feature(4, 200),
-        s,
-        0,
-        b"",
-        0,
-        made(back(300, b"")),
+        plainly(REVERSED, 4, 200, with_string(source_list(0), 103)),
+        back(300, EMPTY),
     )
 }
 
 // What stands past a length, and a list beside another route, does not count.
 fn junk(t: Tally) -> Tally {
-    no_list(
-        t,
-        plain(
-            Region::Source,
-            200,
-            b"300",
-            300,
-            Route::Whole,
-            listed(&[9, 9, 9]),
-        ),
-    )
+    let mut s = whole(SOURCE, 200, S300, 300, NO_OUTER);
+    s.list = 999;
+    no_list(faultless(t, source_list(9900)), s)
 }
 
 fn faults(t: Tally) -> Tally {
     say(b"-- stored setups: addresses and outer, placing, lists, strings, what does not count\n");
     let t = placing_faults(outer_faults(address_faults(t)));
-    junk(string_faults(long_lists(list_faults(t))))
+    junk(string_faults(list_faults(t)))
 }
 
 fn main() {

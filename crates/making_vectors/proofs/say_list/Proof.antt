@@ -5,10 +5,10 @@ use Rattle.making_vectors.proofs.say_list.Statement.{statement}
 use Rattle.making_vectors.proofs.say_list.Tie as tie
 
 abbrev Inv-loop : tie.InvT-loop
-Inv-loop z types len i₀ t6 i = i ≤ 32
+Inv-loop z types len i₀ t7 i = i ≤ 32
 
 abbrev μ-loop : tie.MeasureT-loop
-μ-loop z types len i₀ t6 i = 32 - i
+μ-loop z types len i₀ t7 i = 32 - i
 
 cast-len : tie.Need-cast-len Inv-loop μ-loop
 cast-len c = search needs
@@ -18,6 +18,12 @@ slice-aggregate-say c = search needs
 
 say-requires : tie.Need-say-requires Inv-loop μ-loop
 say-requires c κs = search needs
+
+slice-aggregate-say-2 : tie.Need-slice-aggregate-say-2 Inv-loop μ-loop
+slice-aggregate-say-2 c = search needs
+
+say-requires-2 : tie.Need-say-requires-2 Inv-loop μ-loop
+say-requires-2 c κs = search needs
 
 loop-holds : tie.Need-loop-holds Inv-loop μ-loop
 loop-holds c = search needs
@@ -37,11 +43,11 @@ loop-less c = search needs
 loop-again : tie.Need-loop-again Inv-loop μ-loop
 loop-again c = search needs
 
-slice-aggregate-say-2 : tie.Need-slice-aggregate-say-2 Inv-loop μ-loop
-slice-aggregate-say-2 c = search needs
+slice-aggregate-say-3 : tie.Need-slice-aggregate-say-3 Inv-loop μ-loop
+slice-aggregate-say-3 c = search needs
 
-say-requires-2 : tie.Need-say-requires-2 Inv-loop μ-loop
-say-requires-2 c κs = search needs
+say-requires-3 : tie.Need-say-requires-3 Inv-loop μ-loop
+say-requires-3 c κs = search needs
 
 cast-say-number : tie.Need-cast-say-number Inv-loop μ-loop
 cast-say-number c = search needs
@@ -64,14 +70,16 @@ say-list-spec =
     cast-len
     slice-aggregate-say
     say-requires
+    slice-aggregate-say-2
+    say-requires-2
     loop-holds
     array-read-say-type
     say-type-requires
     add-i
     loop-less
     loop-again
-    slice-aggregate-say-2
-    say-requires-2
+    slice-aggregate-say-3
+    say-requires-3
     cast-say-number
     say-number-requires
     returns
