@@ -44,12 +44,12 @@ module _ (p : Plan) (rows : length (p .«source_order») ≡ 32) (columns : leng
     unfolding written roomAfter
     write-broken e = (rw e, rw e)
 
-    pub write-short : sound p ≡ true → length room < 292 + length (subscriberFields (take (p .count) (p .subscribers)))
-        → (Refused (RoomTooShort 0) ≡ written p room) × (room ≡ roomAfter p room)
+    pub write-short : {a : List ℕ} → a ≡ room → sound p ≡ true → length room < 292 + length (subscriberFields (take (p .count) (p .subscribers)))
+        → (Refused (RoomTooShort 0) ≡ written p room) × (a ≡ roomAfter p room)
     unfolding written roomAfter
-    write-short e h =
+    write-short same e h =
         let short : leb (length (bytesOf p)) (length room) ≡ false = lt-leb (length (bytesOf p)) (length room) (rw file-length h) in
-        (rw (e, short), rw (e, short))
+        (rw (e, short), same ∙ rw (e, short))
 
     file-put : {a b c : List ℕ} → a ≡ sets room 0 (headFields (p .types) (p .«source_order») (p .«target_order»))
         → b ≡ sets a 289 (subscriberFields (take (p .count) (p .subscribers)))
@@ -62,15 +62,15 @@ module _ (p : Plan) (rows : length (p .«source_order») ≡ 32) (columns : leng
         (puts-then room (headFields (p .types) (p .«source_order») (p .«target_order»)) (subscriberFields (take (p .count) (p .subscribers))) 0 289 289 x y head-is refl)
         (z ∙ rw end-is) before-end (sym (zero-add (289 + length (subscriberFields (take (p .count) (p .subscribers))))))
 
-    pub write-done : {n : ℕ} {a b c : List ℕ} → sound p ≡ true → n ≡ 292 + length (subscriberFields (take (p .count) (p .subscribers))) → n ≤ length room
-        → a ≡ sets room 0 (headFields (p .types) (p .«source_order») (p .«target_order»))
+    pub write-done : {n : ℕ} {same a b c : List ℕ} → same ≡ room → sound p ≡ true → n ≡ 292 + length (subscriberFields (take (p .count) (p .subscribers))) → n ≤ length same
+        → a ≡ sets same 0 (headFields (p .types) (p .«source_order») (p .«target_order»))
         → b ≡ sets a 289 (subscriberFields (take (p .count) (p .subscribers)))
         → c ≡ sets b (289 + length (subscriberFields (take (p .count) (p .subscribers)))) (high 1 127 ++ high 2 0)
         → (Bytes n ≡ written p room) × (c ≡ roomAfter p room)
     unfolding written roomAfter
-    write-done {n} {a} {b} {c} e size h x y z =
+    write-done {n} {same} {a} {b} {c} s e size h x y z =
         let is : length (bytesOf p) ≡ n = file-length ∙ sym size in
-        let fits : length (bytesOf p) ≤ length room = rw is h in
+        let fits : length (bytesOf p) ≤ length room = rw (is, ← s) h in
         let yes : leb (length (bytesOf p)) (length room) ≡ true = le-leb (length (bytesOf p)) (length room) fits in
-        let put : c ≡ sets room 0 (bytesOf p) = file-put x y z in
+        let put : c ≡ sets room 0 (bytesOf p) = file-put (x ∙ ap (λ (l : List ℕ). sets l 0 (headFields (p .types) (p .«source_order») (p .«target_order»))) s) y z in
         (rw (e, yes, is), rw (e, yes) (put ∙ sets-eq (bytesOf p) room 0 (rw zero-add fits) ∙ rw zero-add))
