@@ -5,10 +5,11 @@ ghost use mathlib.Core.List.{_++_};
 ghost use Prim.Native.Nat.{_+_, _*_, _-_, _%_, _≤_, _<_};
 ghost use lib.Dec.{leb, ltb, eqb};
 ghost use lib.ListN.{length, take, drop, replicate};
-ghost use Rattle.plan.specs.Sound.{typesSound, sourceSound, targetSound, ownSound};
+ghost use Rattle.plan.specs.Sound.{typesSound, sourceSound, targetSound, ownSound, numberSaid, placeSaid};
 ghost use Rattle.plan.specs.Table.{fits};
 ghost use Rattle.planbytes.specs.Numbers.{number, numbers};
 ghost use Rattle.planread.specs.Reading.{noSubscriber, planOf, blankPlan, typesIn, orderIn, subscriberWith, allowed, everLong, header, refused, ended, readFrom, readOf};
+ghost use Rattle.planread.specs.Said.{numberRead, placeRead};
 use plan::Plan;
 use plan::Subscriber;
 use plan::Types;
@@ -390,6 +391,7 @@ fn read_types(bytes: &[u8]) -> Reading
 // Any bytes: the plan whose file they are, or the refusal of the first field at which they stop being one.
 pub fn read(bytes: &[u8]) -> Reading
     ensures { λ r. ⌜ r ≡ readOf (now (bytes .entry)) ⌝ }
+    ensures numbered { λ r. ⌜ (numberSaid (r .answer) ≡ numberRead (now (bytes .entry))) × (placeSaid (r .answer) ≡ placeRead (now (bytes .entry))) ⌝ }
 {
     let verdict = header(bytes, 0, 0, 0);
     match verdict {

@@ -1,13 +1,16 @@
 // A sound plan written into lent room as a plan file.
 ghost use mathlib.Core.Path.{_≡_};
-ghost use mathlib.Core.Bool.{cond};
+ghost use mathlib.Core.Bool.{_&&_, cond};
 ghost use mathlib.Core.List.{[], _∷_, _++_};
 ghost use Prim.Native.Nat.{_+_, _*_, _≤_, _<_};
+ghost use lib.Dec.{leb};
 ghost use lib.ListN.{length, take};
 ghost use lib.Seq.{sets};
+ghost use Rattle.refusal.specs.declared.Place.the-variants.{Nowhere, At};
+ghost use Rattle.plan.specs.Sound.{sound};
 ghost use Rattle.planbytes.specs.Numbers.{high, row};
-ghost use Rattle.planbytes.specs.Format.{field, versionBody, typesBody, orderBody, subscriberBody, headFields, subscriberFields};
-ghost use Rattle.planwrite.specs.Writing.{written, roomAfter};
+ghost use Rattle.planbytes.specs.Format.{field, versionBody, typesBody, orderBody, subscriberBody, headFields, subscriberFields, bytesOf};
+ghost use Rattle.planwrite.specs.Writing.{written, roomAfter, numberWritten, placeWritten};
 use plan::Plan;
 use plan::Subscriber;
 use plan::Types;
@@ -192,6 +195,8 @@ fn put_subscribers(
 // A sound plan's file into the room, if it fits in: how many bytes it has. The bytes past it stay.
 pub fn write(plan: Plan, room: &mut [u8]) -> Written
     ensures { λ r. ⌜ (r ≡ written plan (now (room .entry))) × (now (room .exit) ≡ roomAfter plan (now (room .entry))) ⌝ }
+    ensures numbered { λ r. ⌜ (numberWritten r ≡ cond (sound plan) (cond (leb (length (bytesOf plan)) (length (now (room .entry)))) 0 25) 23)
+        × (placeWritten r ≡ cond (sound plan && leb (length (bytesOf plan)) (length (now (room .entry)))) Nowhere (At 0)) ⌝ }
 {
     let types = plan.types;
     let source = plan.source_order;
