@@ -7,3 +7,4 @@ pub mod Theorems
 pub mod Complete
 pub mod Place
 pub mod Cut
+pub mod Ranges
