@@ -1,14 +1,20 @@
--- `plancheck::types` meets its contract. The loop passes 32 places. Assumes nothing.
-use borrow.Author.Needs.{needs}
+-- `planshow::types` meets its contract. The loop passes 32 places. Assumes nothing.
 use Prim.Native.Nat.{_≤_, _-_}
-use Rattle.plancheck.proofs.types.Statement.{statement}
-use Rattle.plancheck.proofs.types.Tie as tie
+use borrow.Author.Needs.{needs}
+use Rattle.planshow.proofs.types.Statement.{statement}
+use Rattle.planshow.proofs.types.Tie as tie
 
 abbrev Inv-loop : tie.InvT-loop
 Inv-loop types t₀ t = t ≤ 32
 
 abbrev μ-loop : tie.MeasureT-loop
 μ-loop types t₀ t = 32 - t
+
+slice-aggregate-write-all : tie.Need-slice-aggregate-write-all Inv-loop μ-loop
+slice-aggregate-write-all c = search needs
+
+write-all-requires : tie.Need-write-all-requires Inv-loop μ-loop
+write-all-requires c κs = search needs
 
 loop-holds : tie.Need-loop-holds Inv-loop μ-loop
 loop-holds c = search needs
@@ -37,6 +43,8 @@ types-spec =
     (tie.spec
     Inv-loop
     μ-loop
+    slice-aggregate-write-all
+    write-all-requires
     loop-holds
     has-requires
     type-line-requires

@@ -1,8 +1,8 @@
--- `plancheck::subscribers` meets its contract. The loop passes 256 places. Assumes nothing.
-use borrow.Author.Needs.{needs}
+-- `planshow::subscribers` meets its contract. The loop passes 256 places. Assumes nothing.
 use Prim.Native.Nat.{_≤_, _-_}
-use Rattle.plancheck.proofs.subscribers.Statement.{statement}
-use Rattle.plancheck.proofs.subscribers.Tie as tie
+use borrow.Author.Needs.{needs}
+use Rattle.planshow.proofs.subscribers.Statement.{statement}
+use Rattle.planshow.proofs.subscribers.Tie as tie
 
 abbrev Inv-loop : tie.InvT-loop
 Inv-loop plan all count i₀ i = i ≤ 256
@@ -12,6 +12,12 @@ abbrev μ-loop : tie.MeasureT-loop
 
 cast-count : tie.Need-cast-count Inv-loop μ-loop
 cast-count c = search needs
+
+slice-aggregate-write-all : tie.Need-slice-aggregate-write-all Inv-loop μ-loop
+slice-aggregate-write-all c = search needs
+
+write-all-requires : tie.Need-write-all-requires Inv-loop μ-loop
+write-all-requires c κs = search needs
 
 loop-holds : tie.Need-loop-holds Inv-loop μ-loop
 loop-holds c = search needs
@@ -44,6 +50,8 @@ subscribers-spec =
     Inv-loop
     μ-loop
     cast-count
+    slice-aggregate-write-all
+    write-all-requires
     loop-holds
     mul-s
     array-copy-out-s

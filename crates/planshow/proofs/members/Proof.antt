@@ -1,8 +1,8 @@
--- `plancheck::members` meets its contract. The loop passes 32 places. Assumes nothing.
+-- `planshow::members` meets its contract. The loop passes 32 places. Assumes nothing.
 use borrow.Author.Needs.{needs}
 use Prim.Native.Nat.{_≤_, _-_}
-use Rattle.plancheck.proofs.members.Statement.{statement}
-use Rattle.plancheck.proofs.members.Tie as tie
+use Rattle.planshow.proofs.members.Statement.{statement}
+use Rattle.planshow.proofs.members.Tie as tie
 
 abbrev Inv-loop : tie.InvT-loop
 Inv-loop set t₀ t = t ≤ 32

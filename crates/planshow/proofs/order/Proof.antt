@@ -1,14 +1,26 @@
--- `plancheck::order` meets its contract. The loop passes 32 places. Assumes nothing.
-use borrow.Author.Needs.{needs}
+-- `planshow::order` meets its contract. The loop passes 32 places. Assumes nothing.
 use Prim.Native.Nat.{_≤_, _-_}
-use Rattle.plancheck.proofs.order.Statement.{statement}
-use Rattle.plancheck.proofs.order.Tie as tie
+use borrow.Author.Needs.{needs}
+use Rattle.planshow.proofs.order.Statement.{statement}
+use Rattle.planshow.proofs.order.Tie as tie
 
 abbrev Inv-loop : tie.InvT-loop
 Inv-loop region rows t₀ t = t ≤ 32
 
 abbrev μ-loop : tie.MeasureT-loop
 μ-loop region rows t₀ t = 32 - t
+
+unordered-requires : tie.Need-unordered-requires Inv-loop μ-loop
+unordered-requires c κs = search needs
+
+write-all-requires : tie.Need-write-all-requires Inv-loop μ-loop
+write-all-requires c κs = search needs
+
+slice-aggregate-write-all : tie.Need-slice-aggregate-write-all Inv-loop μ-loop
+slice-aggregate-write-all c = search needs
+
+write-all-requires-2 : tie.Need-write-all-requires-2 Inv-loop μ-loop
+write-all-requires-2 c κs = search needs
 
 loop-holds : tie.Need-loop-holds Inv-loop μ-loop
 loop-holds c = search needs
@@ -43,6 +55,10 @@ order-spec =
     (tie.spec
     Inv-loop
     μ-loop
+    unordered-requires
+    write-all-requires
+    slice-aggregate-write-all
+    write-all-requires-2
     loop-holds
     cast-row
     mul-row

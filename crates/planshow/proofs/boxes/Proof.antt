@@ -1,8 +1,8 @@
--- `plancheck::boxes` meets its contract. The loop passes 4 places. Assumes nothing.
-use borrow.Author.Needs.{needs}
+-- `planshow::boxes` meets its contract. The loop passes 4 places. Assumes nothing.
 use Prim.Native.Nat.{_≤_, _-_}
-use Rattle.plancheck.proofs.boxes.Statement.{statement}
-use Rattle.plancheck.proofs.boxes.Tie as tie
+use borrow.Author.Needs.{needs}
+use Rattle.planshow.proofs.boxes.Statement.{statement}
+use Rattle.planshow.proofs.boxes.Tie as tie
 
 abbrev Inv-loop : tie.InvT-loop
 Inv-loop count numbers x₀ x = x ≤ 4
@@ -10,11 +10,8 @@ Inv-loop count numbers x₀ x = x ≤ 4
 abbrev μ-loop : tie.MeasureT-loop
 μ-loop count numbers x₀ x = 4 - x
 
-slice-aggregate-write-all : tie.Need-slice-aggregate-write-all Inv-loop μ-loop
-slice-aggregate-write-all c = search needs
-
-write-all-requires : tie.Need-write-all-requires Inv-loop μ-loop
-write-all-requires c κs = search needs
+none-requires : tie.Need-none-requires Inv-loop μ-loop
+none-requires c κs = search needs
 
 loop-holds : tie.Need-loop-holds Inv-loop μ-loop
 loop-holds c = search needs
@@ -49,8 +46,7 @@ boxes-spec =
     (tie.spec
     Inv-loop
     μ-loop
-    slice-aggregate-write-all
-    write-all-requires
+    none-requires
     loop-holds
     mul-spaced
     array-read-spaced

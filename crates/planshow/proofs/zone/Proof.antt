@@ -1,8 +1,8 @@
--- `plancheck::zone` meets its contract. The loop passes 32 places. Assumes nothing.
-use borrow.Author.Needs.{needs}
+-- `planshow::zone` meets its contract. The loop passes 32 places. Assumes nothing.
 use Prim.Native.Nat.{_≤_, _-_}
-use Rattle.plancheck.proofs.zone.Statement.{statement}
-use Rattle.plancheck.proofs.zone.Tie as tie
+use borrow.Author.Needs.{needs}
+use Rattle.planshow.proofs.zone.Statement.{statement}
+use Rattle.planshow.proofs.zone.Tie as tie
 
 abbrev Inv-loop : tie.InvT-loop
 Inv-loop types len i₀ i = i ≤ 32
@@ -12,6 +12,9 @@ abbrev μ-loop : tie.MeasureT-loop
 
 cast-len : tie.Need-cast-len Inv-loop μ-loop
 cast-len c = search needs
+
+none-requires : tie.Need-none-requires Inv-loop μ-loop
+none-requires c κs = search needs
 
 loop-holds : tie.Need-loop-holds Inv-loop μ-loop
 loop-holds c = search needs
@@ -44,6 +47,7 @@ zone-spec =
     Inv-loop
     μ-loop
     cast-len
+    none-requires
     loop-holds
     array-read-spaced
     cast-spaced
