@@ -8,3 +8,5 @@ pub mod Complete
 pub mod Place
 pub mod Cut
 pub mod Ranges
+pub mod Again
+pub mod Exact

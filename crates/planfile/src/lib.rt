@@ -1,12 +1,19 @@
-// The plan file as a whole. `planread` reads it, `planwrite` writes it, and the theorems in proofs/ hold of both. The code here only says of a plan that a program holds
-// what the theorems ask: that its numbers fit their fields, and that its arrays have their lengths.
+// The plan file as a whole. `planread` reads it, `planwrite` writes it, and the theorems in proofs/ hold of both. The code here brings them to any plan that a program holds:
+// its numbers fit their fields and its arrays have their lengths, and written and read again it is the same plan.
 ghost use mathlib.Core.Path.{_≡_};
-ghost use Prim.Native.Nat.{_^_, _<_};
-ghost use lib.ListN.{length};
+ghost use Prim.Native.Nat.{_^_, _<_, _≤_};
+ghost use lib.ListN.{length, take};
 ghost use Rattle.planbytes.specs.Numbers.{Below};
 ghost use Rattle.planfile.specs.Typed.{TypedSubscriber, AllTyped, Typed};
+ghost use Rattle.planread.specs.Reading.{readOf, refused};
+ghost use Rattle.planwrite.specs.Writing.{written, roomAfter};
+ghost use Rattle.planfile.specs.Back.{comesBack};
 use plan::Plan;
 use plan::Subscriber;
+use plan::Verdict;
+use planread::Reading;
+use planwrite::Written;
+use refusal::Refusal;
 
 fn narrow(n: u8)
     ensures { λ r. ⌜ n < 2 ^ 8 ⌝ }
@@ -72,4 +79,36 @@ pub fn held(plan: Plan)
     rows(source);
     rows(target);
     subscribers(all);
+}
+
+// The first n bytes of a file, read.
+fn read_first(file: &[u8], n: usize) -> Reading
+    requires { ⌜ n ≤ length (now file) ⌝ }
+    ensures { λ r. ⌜ r ≡ readOf (take n (now (file .entry))) ⌝ }
+{
+    planread::read(&file[..n])
+}
+
+// A refusal of the writer; beside it stands the plan that reading no bytes leaves.
+fn unwritten(file: &[u8], r: Refusal) -> Reading
+    ensures { λ x. ⌜ x ≡ refused r ⌝ }
+{
+    let reading = read_first(file, 0);
+    let plan = reading.plan;
+    Reading {
+        answer: Verdict::Refused(r),
+        plan,
+    }
+}
+
+// A plan written into the room, and read from it again.
+pub fn there_and_back(plan: Plan, room: &mut [u8]) -> Reading
+    ensures { λ r. ⌜ (r ≡ comesBack (written plan (now (room .entry))) plan) × (now (room .exit) ≡ roomAfter plan (now (room .entry))) ⌝ }
+{
+    held(plan);
+    let answer = planwrite::write(plan, room);
+    match answer {
+        Written::Refused(r) => unwritten(room, r),
+        Written::Bytes(n) => read_first(room, n),
+    }
 }
