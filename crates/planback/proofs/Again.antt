@@ -17,9 +17,9 @@ use Rattle.planread.specs.Reading.{blankPlan, accepted, refused, readOf, readFr
 use Rattle.planwrite.specs.declared.Written.{Written}
 use Rattle.planwrite.specs.declared.Written.the-variants as written-variants
 use Rattle.planwrite.specs.Writing.{answerOf, written, roomAfter}
 use Rattle.planfile.specs.Typed.{Typed}
-use Rattle.planfile.specs.Back.{comesBack}
+use Rattle.planback.specs.Back.{comesBack}
 use Rattle.planfile.proofs.Theorems.{write-then-read}
 
 abbrev isBytes : Written → Bool
 isBytes (written-variants.Bytes n) = true

@@ -1,8 +1,8 @@
--- `planfile::unwritten` meets its contract. Assumes nothing.
-use Rattle.planfile.proofs.Again.{beside-refusal}
+-- `planback::unwritten` meets its contract. Assumes nothing.
+use Rattle.planback.proofs.Again.{beside-refusal}
 use borrow.Author.Needs.{needs}
-use Rattle.planfile.proofs.unwritten.Statement.{statement}
-use Rattle.planfile.proofs.unwritten.Tie as tie
+use Rattle.planback.proofs.unwritten.Statement.{statement}
+use Rattle.planback.proofs.unwritten.Tie as tie
 
 read-first-requires : tie.Need-read-first-requires
 read-first-requires c κs = search needs

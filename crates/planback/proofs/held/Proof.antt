@@ -1,8 +1,8 @@
--- `planfile::held` meets its contract. Assumes nothing.
+-- `planback::held` meets its contract. Assumes nothing.
 use borrow.Author.Needs.{needs}
 use Rattle.planbytes.specs.Numbers.{Below}
-use Rattle.planfile.proofs.held.Statement.{statement}
-use Rattle.planfile.proofs.held.Tie as tie
+use Rattle.planback.proofs.held.Statement.{statement}
+use Rattle.planback.proofs.held.Tie as tie
 
 wide-requires : tie.Need-wide-requires
 wide-requires c κs = search needs

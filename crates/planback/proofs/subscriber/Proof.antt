@@ -1,8 +1,8 @@
--- `planfile::subscriber` meets its contract. Assumes nothing.
+-- `planback::subscriber` meets its contract. Assumes nothing.
 use borrow.Author.Needs.{needs}
 use Rattle.planbytes.specs.Numbers.{Below}
-use Rattle.planfile.proofs.subscriber.Statement.{statement}
-use Rattle.planfile.proofs.subscriber.Tie as tie
+use Rattle.planback.proofs.subscriber.Statement.{statement}
+use Rattle.planback.proofs.subscriber.Tie as tie
 
 narrow-requires : tie.Need-narrow-requires
 narrow-requires c κs = search needs

@@ -9,8 +9,8 @@ use denote.Triple.Clauses.{AtExit}
 use borrow.Fn.Kinds.{endedOf}
 use Rattle.plan.specs.declared.Plan.{Plan}
 use Rattle.planread.specs.declared.Reading.{Reading}
-use Rattle.planfile.proofs.there_and_back.Reads as there-and-back
-use Rattle.planfile.proofs.there_and_back.Kinds as there-and-back-kinds
+use Rattle.planback.proofs.there_and_back.Reads as there-and-back
+use Rattle.planback.proofs.there_and_back.Kinds as there-and-back-kinds
 
 pub there-and-back-exact : (κs : Lfts 1) (plan : Plan) (room : RefT (List ℕ)) (end end′ : AtExit (endedOf 1 there-and-back-kinds.ps there-and-back-kinds.r) κs) (r s : Reading)
     → there-and-back.Post κs (plan, (room, tt)) r end → there-and-back.Post κs (plan, (room, tt)) s end′ → (r ≡ s) × (end .1 .0 .now ≡ end′ .1 .0 .now)

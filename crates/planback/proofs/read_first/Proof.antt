@@ -1,9 +1,9 @@
--- `planfile::read_first` meets its contract. Assumes nothing.
+-- `planback::read_first` meets its contract. Assumes nothing.
 use mathlib.Core.Path.{sym}
 use lib.Seq.{length-take-le}
 use borrow.Author.Needs.{needs}
-use Rattle.planfile.proofs.read_first.Statement.{statement}
-use Rattle.planfile.proofs.read_first.Tie as tie
+use Rattle.planback.proofs.read_first.Statement.{statement}
+use Rattle.planback.proofs.read_first.Tie as tie
 
 slice-aggregate-read : tie.Need-slice-aggregate-read
 slice-aggregate-read c = sym (length-take-le (c .before .before .args .n) (c .before .before .args .file .now) (c .before .before .pre))

@@ -1,13 +1,13 @@
--- `planfile::subscribers` meets its contract. Assumes nothing.
+-- `planback::subscribers` meets its contract. Assumes nothing.
 use mathlib.Core.Path.{_≡_}
 use Prim.Native.Nat.{_-_, _≤_}
 use native.Mathlib.Omega.{arith}
 use borrow.Author.Needs.{needs}
 use lib.ListN.{length, take}
 use Rattle.planfile.specs.Typed.{AllTyped}
-use Rattle.planfile.proofs.Ranges.{typed-none, typed-more, typed-all}
-use Rattle.planfile.proofs.subscribers.Statement.{statement}
-use Rattle.planfile.proofs.subscribers.Tie as tie
+use Rattle.planback.proofs.Ranges.{typed-none, typed-more, typed-all}
+use Rattle.planback.proofs.subscribers.Statement.{statement}
+use Rattle.planback.proofs.subscribers.Tie as tie
 
 abbrev Inv-loop : tie.InvT-loop
 Inv-loop all i₀ i = (i ≤ 256) × AllTyped (take i all)

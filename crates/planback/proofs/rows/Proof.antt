@@ -1,13 +1,13 @@
--- `planfile::rows` meets its contract. Assumes nothing.
+-- `planback::rows` meets its contract. Assumes nothing.
 use mathlib.Core.Path.{_≡_}
 use Prim.Native.Nat.{_^_, _+_, _-_, _<_, _≤_}
 use native.Mathlib.Omega.{arith}
 use borrow.Author.Needs.{needs}
 use lib.ListN.{length, take}
 use Rattle.planbytes.specs.Numbers.{Below}
-use Rattle.planfile.proofs.Ranges.{below-none, below-more, below-all}
-use Rattle.planfile.proofs.rows.Statement.{statement}
-use Rattle.planfile.proofs.rows.Tie as tie
+use Rattle.planback.proofs.Ranges.{below-none, below-more, below-all}
+use Rattle.planback.proofs.rows.Statement.{statement}
+use Rattle.planback.proofs.rows.Tie as tie
 
 abbrev Inv-loop : tie.InvT-loop
 Inv-loop order t₀ t = (t ≤ 32) × Below (2 ^ 32) (take t order)

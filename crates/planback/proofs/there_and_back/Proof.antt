@@ -1,9 +1,9 @@
--- `planfile::there_and_back` meets its contract. Assumes nothing.
+-- `planback::there_and_back` meets its contract. Assumes nothing.
 use native.Mathlib.Omega.{arith}
-use Rattle.planfile.proofs.Again.{back-room, back-read, back-refused}
+use Rattle.planback.proofs.Again.{back-room, back-read, back-refused}
 use borrow.Author.Needs.{needs}
-use Rattle.planfile.proofs.there_and_back.Statement.{statement}
-use Rattle.planfile.proofs.there_and_back.Tie as tie
+use Rattle.planback.proofs.there_and_back.Statement.{statement}
+use Rattle.planback.proofs.there_and_back.Tie as tie
 
 held-requires : tie.Need-held-requires
 held-requires c κs = search needs
