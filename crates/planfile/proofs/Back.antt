@@ -27,7 +27,7 @@ use Rattle.planbytes.specs.Format.{field, versionBody, setsOf, typesBody, order
 use Rattle.planbytes.proofs.Lengths.{field-length}
 use Rattle.planbytes.proofs.Rounds.{high-number, below-drop}
 use Rattle.planread.specs.declared.Reading.{Reading}
-use Rattle.planread.specs.Reading.{nobody, planOf, blankPlan, tagOf, lengthOf, bodyOf, after, typesIn, orderIn, subscriberIn, allowed, everLong, header, entered, kept, refused, accepted, ended, readFrom, readOf}
+use Rattle.planread.specs.Reading.{noSubscriber, planOf, blankPlan, tagOf, lengthOf, bodyOf, after, typesIn, orderIn, subscriberIn, allowed, everLong, header, entered, kept, refused, accepted, ended, readFrom, readOf}
 use Rattle.planread.proofs.Places.{every-alike}
 use Rattle.planread.proofs.Steps.{header-passed, read-refused, read-broken, read-on, read-end, version-next, types-next, source-next, target-next, end-next, subscriber-next}
 use Rattle.planfile.specs.Typed.{TypedSubscriber, AllTyped, Typed}
@@ -51,9 +51,9 @@ pub data Reached : ℕ → Plan → List ℕ → Type 0 where
   atStart : Reached 0 blankPlan []
   atTypes : Reached 1 blankPlan (field 1 versionBody)
   atSource : (t : Types) → Below (2 ^ 32) (setsOf t) → typesSound t ≡ true
-      → Reached 2 (planOf t (replicate 32 0) (replicate 32 0) (replicate 256 nobody) 0) (field 1 versionBody ++ field 2 (typesBody t))
+      → Reached 2 (planOf t (replicate 32 0) (replicate 32 0) (replicate 256 noSubscriber) 0) (field 1 versionBody ++ field 2 (typesBody t))
   atTarget : (t : Types) (source : List ℕ) → Below (2 ^ 32) (setsOf t) → typesSound t ≡ true → Below (2 ^ 32) source → length source ≡ 32 → sourceSound t source ≡ true
-      → Reached 3 (planOf t source (replicate 32 0) (replicate 256 nobody) 0) (field 1 versionBody ++ field 2 (typesBody t) ++ field 3 (orderBody source))
+      → Reached 3 (planOf t source (replicate 32 0) (replicate 256 noSubscriber) 0) (field 1 versionBody ++ field 2 (typesBody t) ++ field 3 (orderBody source))
   atSubscribers : (t : Types) (source target : List ℕ) (xs : List Subscriber) → HeadRead t source target → length xs ≤ 256 → AllTyped xs
       → every (length xs) (subscriberSound t (filled xs)) ≡ true → Reached 4 (state t source target xs) (headFields t source target ++ subscriberFields xs)
 
@@ -87,12 +87,12 @@ filled-typed : (xs : List Subscriber) → AllTyped xs → AllTyped (filled xs)
 unfolding filled AllTyped Below
 filled-typed xs p = both xs (256 - length xs) p
   where
-    nobodies : (n : ℕ) → AllTyped (replicate n nobody)
-    nobodies zero = tt
-    nobodies (suc n) = (record { kind-fits = omega arith; fixed-fit = (omega arith, (omega arith, (omega arith, tt))); boxes-fit = (omega arith, (omega arith, (omega arith, (omega arith, tt)))); four-boxes = refl }, nobodies n)
+    empties : (n : ℕ) → AllTyped (replicate n noSubscriber)
+    empties zero = tt
+    empties (suc n) = (record { kind-fits = omega arith; fixed-fit = (omega arith, (omega arith, (omega arith, tt))); boxes-fit = (omega arith, (omega arith, (omega arith, (omega arith, tt)))); four-boxes = refl }, empties n)
 
-    both : (xs : List Subscriber) (n : ℕ) → AllTyped xs → AllTyped (xs ++ replicate n nobody)
-    both [] n p = nobodies n
+    both : (xs : List Subscriber) (n : ℕ) → AllTyped xs → AllTyped (xs ++ replicate n noSubscriber)
+    both [] n p = empties n
     both (x ∷ xs) n p = (p .0, both xs n (p .1))
 
 pub state-typed : (t : Types) (source target : List ℕ) (xs : List Subscriber) → HeadRead t source target → length xs ≤ 256 → AllTyped xs → Typed (state t source target xs)

@@ -7,4 +7,3 @@ pub mod Theorems
 pub mod Complete
 pub mod Place
 pub mod Cut
-pub mod Said

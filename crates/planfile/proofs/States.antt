@@ -1,4 +1,4 @@
--- The plan as far as it is read: the subscribers so far, and nobody in the places past them. Assumes nothing.
+-- The plan as far as it is read: the subscribers so far, and no subscriber in the places past them. Assumes nothing.
 use mathlib.Core.Path.{_≡_, refl, sym, ap, _∙_}
 use mathlib.Core.Logic.{_⊎_, ⊎-elim}
 use mathlib.Core.Bool.{true, false, _&&_}
@@ -21,36 +21,36 @@ use Rattle.plan.specs.Rules.{kindKnown, countFits, numbersGiven, numbersDiffer,
 use Rattle.plan.specs.Sound.{boxesSound, ownSound, sound}
 use Rattle.plan.proofs.Subscribers.{own-kind, own-count, own-boxes}
 use Rattle.plan.proofs.Laws.{few, rest-kept}
-use Rattle.planread.specs.Reading.{nobody, planOf}
+use Rattle.planread.specs.Reading.{noSubscriber, planOf}
 use Rattle.planread.proofs.Places.{Alike}
 use Rattle.planfile.specs.Typed.{TypedSubscriber, AllTyped, Typed}
 use Rattle.planfile.proofs.Bodies.{zeros}
 
 unfoldable pub filled : List Subscriber → List Subscriber
-filled xs = xs ++ replicate (256 - length xs) nobody
+filled xs = xs ++ replicate (256 - length xs) noSubscriber
 
 abbrev pub state : Types → List ℕ → List ℕ → List Subscriber → Plan
 state t source target xs = planOf t source target (filled xs) (length xs)
 
 pub filled-length : (xs : List Subscriber) → length xs ≤ 256 → length (filled xs) ≡ 256
 unfolding filled
-filled-length xs h = length-append xs (replicate (256 - length xs) nobody) ∙ rw (length-replicate (256 - length xs) nobody) (omega arith)
+filled-length xs h = length-append xs (replicate (256 - length xs) noSubscriber) ∙ rw (length-replicate (256 - length xs) noSubscriber) (omega arith)
 
 pub filled-take : (xs : List Subscriber) → take (length xs) (filled xs) ≡ xs
 unfolding filled
-filled-take xs = take-append-seam xs (replicate (256 - length xs) nobody)
+filled-take xs = take-append-seam xs (replicate (256 - length xs) noSubscriber)
 
 -- one more
 pub filled-set : (xs : List Subscriber) (s : Subscriber) → length xs < 256 → set (filled xs) (length xs) s ≡ filled (xs ++ (s ∷ []))
 unfolding filled
 filled-set xs s h =
     let e : 256 - length xs ≡ suc (256 - (length xs + 1)) = omega arith in
-    rw e (set-append-seam xs nobody (replicate (256 - (length xs + 1)) nobody) s
-    ∙ sym (append-snoc xs s (replicate (256 - (length xs + 1)) nobody)) ∙ rw (length-append xs (s ∷ [])))
+    rw e (set-append-seam xs noSubscriber (replicate (256 - (length xs + 1)) noSubscriber) s
+    ∙ sym (append-snoc xs s (replicate (256 - (length xs + 1)) noSubscriber)) ∙ rw (length-append xs (s ∷ [])))
 
 pub filled-at : (xs : List Subscriber) (i : ℕ) → i < length xs → at (filled xs) i ≡ at xs i
 unfolding filled
-filled-at xs i h = List·getD-append xs (replicate (256 - length xs) nobody) _ i h
+filled-at xs i h = List·getD-append xs (replicate (256 - length xs) noSubscriber) _ i h
 
 pub filled-alike : (xs ys : List Subscriber) → Alike (filled xs) (filled (xs ++ ys)) (length xs)
 filled-alike xs ys j h =
@@ -73,14 +73,14 @@ filled-rest xs =
     let low : length xs ≤ i = leb-true (length xs) i e in
     let place : i ≡ length xs + (i - length xs) = omega arith in
     let inside : i - length xs < 256 - length xs = omega arith in
-    let there : at (filled xs) i ≡ nobody =
-    ap (at (filled xs)) place ∙ getD-append-add xs (replicate (256 - length xs) nobody) (i - length xs) _
-    ∙ getD-replicate (256 - length xs) (i - length xs) nobody _ inside in
+    let there : at (filled xs) i ≡ noSubscriber =
+    ap (at (filled xs)) place ∙ getD-append-add xs (replicate (256 - length xs) noSubscriber) (i - length xs) _
+    ∙ getD-replicate (256 - length xs) (i - length xs) noSubscriber _ inside in
     ap blank there))
 
-blank-nobody : (s : Subscriber) → blank s ≡ true → TypedSubscriber s → s ≡ nobody
+blank-empty : (s : Subscriber) → blank s ≡ true → TypedSubscriber s → s ≡ noSubscriber
 unfolding blank
-blank-nobody s e 𝓣 =
+blank-empty s e 𝓣 =
     let none = and-right (eqb (s .kind) 0 && eqb (s .address) 0 && eqb (s .source) 0 && eqb (s .target) 0 && eqb (s .count) 0) (every 4 (λ x. eqb (box s x) 0)) e in
     let five = and-left (eqb (s .kind) 0 && eqb (s .address) 0 && eqb (s .source) 0 && eqb (s .target) 0 && eqb (s .count) 0) (every 4 (λ x. eqb (box s x) 0)) e in
     let four = and-left (eqb (s .kind) 0 && eqb (s .address) 0 && eqb (s .source) 0 && eqb (s .target) 0) (eqb (s .count) 0) five in
@@ -98,9 +98,9 @@ blank-nobody s e 𝓣 =
       count = eqb-true (s .count) 0 (and-right (eqb (s .kind) 0 && eqb (s .address) 0 && eqb (s .source) 0 && eqb (s .target) 0) (eqb (s .count) 0) five) i;
     }
 
-all-nobody : (l : List Subscriber) → ((i : ℕ) → i < length l → at l i ≡ nobody) → l ≡ replicate (length l) nobody
-all-nobody [] f = refl
-all-nobody (x ∷ l) f = λ j. f 0 (omega arith) j ∷ all-nobody l (λ i h. f (suc i) (omega arith)) j
+all-empty : (l : List Subscriber) → ((i : ℕ) → i < length l → at l i ≡ noSubscriber) → l ≡ replicate (length l) noSubscriber
+all-empty [] f = refl
+all-empty (x ∷ l) f = λ j. f 0 (omega arith) j ∷ all-empty l (λ i h. f (suc i) (omega arith)) j
 
 pub typed-at : (ss : List Subscriber) → AllTyped ss → (i : ℕ) → i < length ss → TypedSubscriber (at ss i)
 unfolding AllTyped
@@ -114,28 +114,28 @@ typed-take zero ss p = tt
 typed-take (suc n) [] p = tt
 typed-take (suc n) (s ∷ ss) p = (p .0, typed-take n ss (p .1))
 
--- a sound plan is its subscribers in use, and nobody in the places past them
+-- a sound plan is its subscribers in use, and no subscriber in the places past them
 module _ (p : Plan) (𝓣 : Typed p) (𝓢 : sound p ≡ true) where
   pub used-length : length (take (p .count) (p .subscribers)) ≡ p .count
   used-length = length-take-le (p .count) (p .subscribers) (rw (𝓣 .places) (few p 𝓢))
 
-  rest-nobody : drop (p .count) (p .subscribers) ≡ replicate (256 - p .count) nobody
+  rest-empty : drop (p .count) (p .subscribers) ≡ replicate (256 - p .count) noSubscriber
   unfolding restBlank
-  rest-nobody =
+  rest-empty =
       let long : length (drop (p .count) (p .subscribers)) ≡ 256 - p .count = length-drop (p .count) (p .subscribers) ∙ ap (λ (n : ℕ). n - p .count) (𝓣 .places) in
-      all-nobody (drop (p .count) (p .subscribers)) (λ i h.
+      all-empty (drop (p .count) (p .subscribers)) (λ i h.
       let here : p .count + i < 256 = omega arith in
       let inside : p .count + i < length (p .subscribers) = rw (𝓣 .places) here in
       getD-drop (p .count) (p .subscribers) i _
-      ∙ blank-nobody (at (p .subscribers) (p .count + i))
+      ∙ blank-empty (at (p .subscribers) (p .count + i))
       (imp-at (leb (p .count) (p .count + i)) (blank (at (p .subscribers) (p .count + i)))
       (every-at 256 (λ i. implies (leb (p .count) i) (blank (at (p .subscribers) i))) (rest-kept p 𝓢) (p .count + i) here) (le-leb (p .count) (p .count + i) (omega arith)))
       (typed-at (p .subscribers) (𝓣 .each-fits) (p .count + i) inside))
-      ∙ ap (λ (n : ℕ). replicate n nobody) long
+      ∙ ap (λ (n : ℕ). replicate n noSubscriber) long
 
   pub filled-used : filled (take (p .count) (p .subscribers)) ≡ p .subscribers
   unfolding filled
-  filled-used = rw (used-length, ← rest-nobody) (take-append-drop (p .count) (p .subscribers))
+  filled-used = rw (used-length, ← rest-empty) (take-append-drop (p .count) (p .subscribers))
 
   pub state-used : state (p .types) (p .«source_order») (p .«target_order») (take (p .count) (p .subscribers)) ≡ p
   state-used = λ i. planOf (p .types) (p .«source_order») (p .«target_order») (filled-used i) (used-length i)

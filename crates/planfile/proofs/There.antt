@@ -20,7 +20,7 @@ use Rattle.plan.proofs.Laws.{few, types-kept, source-kept, target-kept, subscri
 use Rattle.planbytes.specs.Numbers.{high, numberAfter, number, Below}
 use Rattle.planbytes.specs.Format.{field, versionBody, setsOf, typesBody, orderBody, subscriberBody, subscriberFields, headFields, endField, bytesOf}
 use Rattle.planbytes.proofs.Lengths.{types-length, order-length, field-length}
-use Rattle.planread.specs.Reading.{nobody, planOf, blankPlan, allowed, everLong, entered, kept, accepted, ended, readFrom, readOf}
+use Rattle.planread.specs.Reading.{noSubscriber, planOf, blankPlan, allowed, everLong, entered, kept, accepted, ended, readFrom, readOf}
 use Rattle.planread.proofs.Places.{sound-alike, every-alike}
 use Rattle.planwrite.proofs.Files.{file-length}
 use Rattle.planfile.specs.Typed.{TypedSubscriber, AllTyped, Typed}
@@ -35,7 +35,7 @@ module _ (rest : List ℕ) where
   read-version = pass-on 1 (high 1 1) rest (omega arith) (omega arith) 0 blankPlan refl refl refl refl 260 0 (eqb-false 1 127 refl)
 
   pub read-types : (t : Types) → Below (2 ^ 32) (setsOf t) → typesSound t ≡ true
-      → readFrom 260 1 blankPlan 4 (field 2 (typesBody t) ++ rest) ≡ readFrom 259 2 (planOf t (replicate 32 0) (replicate 32 0) (replicate 256 nobody) 0) 27 rest
+      → readFrom 260 1 blankPlan 4 (field 2 (typesBody t) ++ rest) ≡ readFrom 259 2 (planOf t (replicate 32 0) (replicate 32 0) (replicate 256 noSubscriber) 0) 27 rest
   unfolding allowed everLong entered kept blankPlan
   read-types t fit ok =
       let long = types-length t in
@@ -44,24 +44,24 @@ module _ (rest : List ℕ) where
       ∙ rw (long, types-there t fit)
 
   pub read-source : (t : Types) (target source : List ℕ) → length source ≡ 32 → Below (2 ^ 32) source → sourceSound t source ≡ true
-      → readFrom 259 2 (planOf t (replicate 32 0) target (replicate 256 nobody) 0) 27 (field 3 (orderBody source) ++ rest)
-      ≡ readFrom 258 3 (planOf t source target (replicate 256 nobody) 0) 158 rest
+      → readFrom 259 2 (planOf t (replicate 32 0) target (replicate 256 noSubscriber) 0) 27 (field 3 (orderBody source) ++ rest)
+      ≡ readFrom 258 3 (planOf t source target (replicate 256 noSubscriber) 0) 158 rest
   unfolding allowed everLong entered kept
   read-source t target source rows fit ok =
       let long = order-length source rows in
       let short : length (orderBody source) < 2 ^ 16 = rw long (omega arith) in
-      pass-on 3 (orderBody source) rest (omega arith) short 2 (planOf t (replicate 32 0) target (replicate 256 nobody) 0) refl refl (eq-eqb (length (orderBody source)) 128 long)
+      pass-on 3 (orderBody source) rest (omega arith) short 2 (planOf t (replicate 32 0) target (replicate 256 noSubscriber) 0) refl refl (eq-eqb (length (orderBody source)) 128 long)
       (ap (sourceSound t) (order-there source rows fit) ∙ ok) 258 27 (eqb-false 3 127 refl)
       ∙ rw (long, order-there source rows fit)
 
   pub read-target : (t : Types) (source target : List ℕ) → length target ≡ 32 → Below (2 ^ 32) target → targetSound t source target ≡ true
-      → readFrom 258 3 (planOf t source (replicate 32 0) (replicate 256 nobody) 0) 158 (field 4 (orderBody target) ++ rest)
-      ≡ readFrom 257 4 (planOf t source target (replicate 256 nobody) 0) 289 rest
+      → readFrom 258 3 (planOf t source (replicate 32 0) (replicate 256 noSubscriber) 0) 158 (field 4 (orderBody target) ++ rest)
+      ≡ readFrom 257 4 (planOf t source target (replicate 256 noSubscriber) 0) 289 rest
   unfolding allowed everLong entered kept
   read-target t source target rows fit ok =
       let long = order-length target rows in
       let short : length (orderBody target) < 2 ^ 16 = rw long (omega arith) in
-      pass-on 4 (orderBody target) rest (omega arith) short 3 (planOf t source (replicate 32 0) (replicate 256 nobody) 0) refl refl (eq-eqb (length (orderBody target)) 128 long)
+      pass-on 4 (orderBody target) rest (omega arith) short 3 (planOf t source (replicate 32 0) (replicate 256 noSubscriber) 0) refl refl (eq-eqb (length (orderBody target)) 128 long)
       (ap (targetSound t source) (order-there target rows fit) ∙ ok) 257 158 (eqb-false 4 127 refl)
       ∙ rw (long, order-there target rows fit)
 

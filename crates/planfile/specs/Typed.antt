@@ -1,5 +1,5 @@
--- What the types of its fields say of a plan in memory: each number fits its field, and each array has its length. By the meaning of these types every plan that a program
--- holds has it; what `read` accepts is proved to have it. In the laws it is a hypothesis, since a number of the logic has no width.
+-- What the types of its fields say of a plan in memory: each number fits its field, and each array has its length. Every plan that a program holds has it: `planback::held`
+-- is proved to leave it of any plan that it is given. What `read` accepts has it too. In the laws it is a hypothesis, since a number of the logic has no width.
 -- Assumes nothing.
 use mathlib.Core.Path.{_≡_}
 use mathlib.Core.List.{List, [], _∷_}

@@ -10,6 +10,6 @@ use Rattle.planread.specs.declared.Reading.{Reading}
 use Rattle.planread.proofs.read.Reads as read
 use Rattle.planread.proofs.read.Kinds as read-kinds
 
-pub read-exact : (κs : Lfts 1) (bytes : RefT (List ℕ)) (end : AtExit (endedOf 1 read-kinds.ps read-kinds.r) κs) (r s : Reading)
-    → read.Post κs (bytes, tt) r end → read.Post κs (bytes, tt) s end → r ≡ s
-read-exact κs bytes end r s p q = p ∙ sym q
+pub read-exact : (κs : Lfts 1) (bytes : RefT (List ℕ)) (end end′ : AtExit (endedOf 1 read-kinds.ps read-kinds.r) κs) (r s : Reading)
+    → read.Post κs (bytes, tt) r end → read.Post κs (bytes, tt) s end′ → r ≡ s
+read-exact κs bytes end end′ r s p q = p .0 ∙ sym (q .0)

@@ -13,7 +13,7 @@ use Rattle.plan.specs.declared.Subscriber.{Subscriber}
 use Rattle.plan.specs.Sound.{subscriberSound}
 use Rattle.plan.specs.Table.{claimed}
 use Rattle.plan.proofs.Numbers.{Taken, taken-none, taken-next}
-use Rattle.planread.specs.Reading.{nobody, planOf, readFrom}
+use Rattle.planread.specs.Reading.{noSubscriber, planOf, readFrom}
 use Rattle.planread.proofs.Places.{lastAddress, every-alike, taken-alike, set-alike, set-there}
 
 pub record Going (bs : List ℕ) (t : Types) (source target : List ℕ) (taken : List ℕ) (subs : List Subscriber) (count last at : ℕ) : Type 0 where
@@ -25,19 +25,19 @@ pub record Going (bs : List ℕ) (t : Types) (source target : List ℕ) (taken :
   pub table : Taken taken subs count
   -- reading on from here gives the whole result
   pub result : readFrom (257 - count) 4 (planOf t source target subs count) at (drop at bs)
-      ≡ readFrom 257 4 (planOf t source target (replicate 256 nobody) 0) 289 (drop 289 bs)
+      ≡ readFrom 257 4 (planOf t source target (replicate 256 noSubscriber) 0) 289 (drop 289 bs)
 
 module _ (bs : List ℕ) (t : Types) (source target : List ℕ) where
-  pub going-none : 289 ≤ length bs → {taken : List ℕ} → taken ≡ replicate 65536 0 → Going bs t source target taken (replicate 256 nobody) 0 0 289
+  pub going-none : 289 ≤ length bs → {taken : List ℕ} → taken ≡ replicate 65536 0 → Going bs t source target taken (replicate 256 noSubscriber) 0 0 289
   unfolding lastAddress
   going-none h e =
       record {
         few = omega arith;
         inside = h;
-        places = length-replicate 256 nobody;
+        places = length-replicate 256 noSubscriber;
         last-is = refl;
-        kept = every-none (subscriberSound t (replicate 256 nobody));
-        table = rw e (taken-none (replicate 256 nobody));
+        kept = every-none (subscriberSound t (replicate 256 noSubscriber));
+        table = rw e (taken-none (replicate 256 noSubscriber));
         result = refl;
       }
 

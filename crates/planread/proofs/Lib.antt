@@ -4,3 +4,4 @@ pub mod Steps
 pub mod Turns
 pub mod Going
 pub mod Exact
+pub mod Said

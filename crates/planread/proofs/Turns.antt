@@ -15,7 +15,7 @@ use Rattle.plan.specs.declared.Plan.{Plan}
 use Rattle.plan.specs.declared.Verdict.the-variants.{Sound, Refused}
 use Rattle.plan.specs.Sound.{typesSound, sourceSound, targetSound, subscriberSound}
 use Rattle.planbytes.specs.Numbers.{number}
-use Rattle.planread.specs.Reading.{nobody, noTypes, planOf, blankPlan, tagOf, lengthOf, typesIn, orderIn, boxesIn, subscriberWith, subscriberIn, entered, kept, header, refused, ended, readFrom, readOf}
+use Rattle.planread.specs.Reading.{noSubscriber, noTypes, planOf, blankPlan, tagOf, lengthOf, typesIn, orderIn, boxesIn, subscriberWith, subscriberIn, entered, kept, header, refused, ended, readFrom, readOf}
 use Rattle.planbytes.proofs.Numbers.{one-at}
 use Rattle.planread.proofs.Fields.{tag-at, length-at}
 use Rattle.planread.proofs.Steps.{Passed, Next, header-passed, read-refused, types-part, order-part, subscriber-part, version-next, types-next, source-next, target-next, end-next, subscriber-next, at-room, at-broken, at-end, at-on}
@@ -62,11 +62,11 @@ module _ (bs : List ℕ) (e : header 1 0 4 (drop 4 bs) ≡ Sound) where
     types-broken k = at-broken 259 1 blankPlan 4 bs e (types-is .0) (types-is .1) (types-kept blankPlan ∙ k)
 
     pub types-on : typesSound t ≡ true
-        → readFrom 260 1 blankPlan 4 (drop 4 bs) ≡ readFrom 259 2 (planOf t (replicate 32 0) (replicate 32 0) (replicate 256 nobody) 0) 27 (drop 27 bs)
+        → readFrom 260 1 blankPlan 4 (drop 4 bs) ≡ readFrom 259 2 (planOf t (replicate 32 0) (replicate 32 0) (replicate 256 noSubscriber) 0) 27 (drop 27 bs)
     unfolding entered blankPlan
     types-on k =
         at-on 259 1 blankPlan 4 bs e (types-is .0) (types-is .1) (types-kept blankPlan ∙ k) (eqb-false 2 127 refl)
-        ∙ ap (λ (x : Types). readFrom 259 2 (planOf x (replicate 32 0) (replicate 32 0) (replicate 256 nobody) 0) 27 (drop 27 bs)) (types-part (drop 7 bs) ∙ sym q)
+        ∙ ap (λ (x : Types). readFrom 259 2 (planOf x (replicate 32 0) (replicate 32 0) (replicate 256 noSubscriber) 0) 27 (drop 27 bs)) (types-part (drop 7 bs) ∙ sym q)
 
 pub types-refused : (bs : List ℕ) {r : Refusal} → header 1 0 4 (drop 4 bs) ≡ Refused r → readFrom 260 1 blankPlan 4 (drop 4 bs) ≡ refused r
 unfolding blankPlan

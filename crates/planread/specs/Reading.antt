@@ -17,8 +17,8 @@ use Rattle.planbytes.specs.Numbers.{number, numbers}
 
 -- ---- blanks: all zero
 
-abbrev pub nobody : Subscriber
-nobody = record { kind = 0; address = 0; source = 0; target = 0; boxes = replicate 4 0; count = 0 }
+abbrev pub noSubscriber : Subscriber
+noSubscriber = record { kind = 0; address = 0; source = 0; target = 0; boxes = replicate 4 0; count = 0 }
 
 abbrev pub noTypes : Types
 noTypes = record { existing = 0; bound = 0; reversible = 0; «source_choice» = 0; «target_choice» = 0 }
@@ -29,7 +29,7 @@ planOf t source target subs count =
     record { types = t; «source_order» = source; «target_order» = target; subscribers = subs; count = count }
 
 unfoldable pub blankPlan : Plan
-blankPlan = planOf noTypes (replicate 32 0) (replicate 32 0) (replicate 256 nobody) 0
+blankPlan = planOf noTypes (replicate 32 0) (replicate 32 0) (replicate 256 noSubscriber) 0
 
 -- ---- the parts of a field: one byte, two bytes, as many bytes as these say, and what comes after
 

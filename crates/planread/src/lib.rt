@@ -1,14 +1,15 @@
 // Any bytes read as a plan file: the plan, or the refusal of the first field at which they stop being one.
 ghost use mathlib.Core.Path.{_≡_};
-ghost use mathlib.Core.Bool.{_&&_};
+ghost use mathlib.Core.Bool.{_&&_, cond};
 ghost use mathlib.Core.List.{_++_};
 ghost use Prim.Native.Nat.{_+_, _*_, _-_, _%_, _≤_, _<_};
 ghost use lib.Dec.{leb, ltb, eqb};
 ghost use lib.ListN.{length, take, drop, replicate};
-ghost use Rattle.plan.specs.Sound.{ownSound};
+ghost use Rattle.plan.specs.Sound.{typesSound, sourceSound, targetSound, ownSound, numberSaid, placeSaid};
 ghost use Rattle.plan.specs.Table.{fits};
 ghost use Rattle.planbytes.specs.Numbers.{number, numbers};
-ghost use Rattle.planread.specs.Reading.{nobody, planOf, blankPlan, typesIn, orderIn, subscriberWith, allowed, everLong, header, refused, ended, readFrom, readOf};
+ghost use Rattle.planread.specs.Reading.{noSubscriber, planOf, blankPlan, typesIn, orderIn, subscriberWith, allowed, everLong, header, refused, ended, readFrom, readOf};
+ghost use Rattle.planread.specs.Said.{numberRead, placeRead};
 use plan::Plan;
 use plan::Subscriber;
 use plan::Types;
@@ -188,9 +189,9 @@ fn header(bytes: &[u8], stage: u8, count: usize, at: usize) -> Verdict
 
 // ---- the file
 
-// No subscriber.
-fn nobody() -> Subscriber
-    ensures { λ r. ⌜ r ≡ nobody ⌝ }
+// What stands in a place that no subscriber has: all zero.
+fn no_subscriber() -> Subscriber
+    ensures { λ r. ⌜ r ≡ noSubscriber ⌝ }
 {
     Subscriber {
         kind: 0,
@@ -206,7 +207,7 @@ fn nobody() -> Subscriber
 fn blank_plan() -> Plan
     ensures { λ r. ⌜ r ≡ blankPlan ⌝ }
 {
-    let nobody = nobody();
+    let empty = no_subscriber();
     Plan {
         types: Types {
             existing: 0,
@@ -217,7 +218,7 @@ fn blank_plan() -> Plan
         },
         source_order: [0u32; 32],
         target_order: [0u32; 32],
-        subscribers: [nobody; 256],
+        subscribers: [empty; 256],
         count: 0,
     }
 }
@@ -260,17 +261,25 @@ fn finish(
     }
 }
 
-// Whether a subscriber keeps its rules beside those before it: its own, an address above the last one's, and box numbers that it may have.
-fn keeps(types: Types, s: Subscriber, last: u32, taken: &[u8; 65536]) -> bool
-    ensures { λ r. ⌜ r ≡ (ownSound types s && ltb last (s .address) && fits (now (taken .entry)) s) ⌝ }
+// Whether a subscriber keeps its rules beside those before it: an address above the last one's, and box numbers that it may have.
+fn beside(s: Subscriber, last: u32, taken: &[u8; 65536]) -> bool
+    ensures { λ r. ⌜ r ≡ (ltb last (s .address) && fits (now (taken .entry)) s) ⌝ }
 {
-    if !plan::own_sound(types, s) {
-        return false;
-    }
     if s.address <= last {
         return false;
     }
     plan::fits(taken, s)
+}
+
+// Whether a subscriber keeps its own rules, its number of boxes among them, and those beside the ones before it.
+fn keeps(types: Types, s: Subscriber, last: u32, taken: &[u8; 65536]) -> bool
+    ensures { λ r. ⌜ r ≡ (ownSound types s && ltb last (s .address) && fits (now (taken .entry)) s) ⌝ }
+{
+    if plan::own_sound(types, s) {
+        beside(s, last, taken)
+    } else {
+        false
+    }
 }
 
 // The fields after the four fixed ones: a subscriber at each turn, until the end field. Nobody has a box number to begin with.
@@ -282,10 +291,10 @@ fn read_subscribers(
     taken: &mut [u8; 65536],
 ) -> Reading
     requires { ⌜ (289 ≤ length (now bytes)) × (now taken ≡ replicate 65536 0) ⌝ }
-    ensures { λ r. ⌜ r ≡ readFrom 257 4 (planOf types source target (replicate 256 nobody) 0) 289 (drop 289 (now (bytes .entry))) ⌝ }
+    ensures { λ r. ⌜ r ≡ readFrom 257 4 (planOf types source target (replicate 256 noSubscriber) 0) 289 (drop 289 (now (bytes .entry))) ⌝ }
 {
-    let nobody = nobody();
-    let mut subscribers = [nobody; 256];
+    let empty = no_subscriber();
+    let mut subscribers = [empty; 256];
     let mut count = 0usize;
     let mut last = 0u32;
     let mut at = 289usize;
@@ -311,17 +320,30 @@ fn read_subscribers(
     }
 }
 
+// The rules that are due at the field with this tag, 2 to 4: those of the five sets, of the source order, of the target order. What later fields say is not looked at.
+fn due(tag: u8, types: Types, source: [u32; 32], target: [u32; 32]) -> bool
+    ensures { λ r. ⌜ r ≡ cond (ltb tag 3) (typesSound types) (cond (ltb tag 4) (sourceSound types source) (targetSound types source target)) ⌝ }
+{
+    if tag < 3 {
+        return plan::types_sound(types);
+    }
+    if tag < 4 {
+        return plan::source_sound(types, source);
+    }
+    plan::target_sound(types, source, target)
+}
+
 // From the target order on.
 fn read_target(bytes: &[u8], types: Types, source: [u32; 32]) -> Reading
     requires { ⌜ 158 ≤ length (now bytes) ⌝ }
-    ensures { λ r. ⌜ r ≡ readFrom 258 3 (planOf types source (replicate 32 0) (replicate 256 nobody) 0) 158 (drop 158 (now (bytes .entry))) ⌝ }
+    ensures { λ r. ⌜ r ≡ readFrom 258 3 (planOf types source (replicate 32 0) (replicate 256 noSubscriber) 0) 158 (drop 158 (now (bytes .entry))) ⌝ }
 {
     let verdict = header(bytes, 3, 0, 158);
     match verdict {
         Verdict::Refused(r) => refused(r),
         Verdict::Sound => {
             let target = order_at(bytes, 161);
-            if !plan::target_sound(types, source, target) {
+            if !due(4, types, source, target) {
                 return refused(Refusal::RuleBroken(158));
             }
             let mut taken = [0u8; 65536];
@@ -333,14 +355,14 @@ fn read_target(bytes: &[u8], types: Types, source: [u32; 32]) -> Reading
 // From the source order on.
 fn read_source(bytes: &[u8], types: Types) -> Reading
     requires { ⌜ 27 ≤ length (now bytes) ⌝ }
-    ensures { λ r. ⌜ r ≡ readFrom 259 2 (planOf types (replicate 32 0) (replicate 32 0) (replicate 256 nobody) 0) 27 (drop 27 (now (bytes .entry))) ⌝ }
+    ensures { λ r. ⌜ r ≡ readFrom 259 2 (planOf types (replicate 32 0) (replicate 32 0) (replicate 256 noSubscriber) 0) 27 (drop 27 (now (bytes .entry))) ⌝ }
 {
     let verdict = header(bytes, 2, 0, 27);
     match verdict {
         Verdict::Refused(r) => refused(r),
         Verdict::Sound => {
             let source = order_at(bytes, 30);
-            if !plan::source_sound(types, source) {
+            if !due(3, types, source, [0u32; 32]) {
                 return refused(Refusal::RuleBroken(27));
             }
             read_target(bytes, types, source)
@@ -358,7 +380,7 @@ fn read_types(bytes: &[u8]) -> Reading
         Verdict::Refused(r) => refused(r),
         Verdict::Sound => {
             let types = types_at(bytes, 7);
-            if !plan::types_sound(types) {
+            if !due(2, types, [0u32; 32], [0u32; 32]) {
                 return refused(Refusal::RuleBroken(4));
             }
             read_source(bytes, types)
@@ -369,6 +391,7 @@ fn read_types(bytes: &[u8]) -> Reading
 // Any bytes: the plan whose file they are, or the refusal of the first field at which they stop being one.
 pub fn read(bytes: &[u8]) -> Reading
     ensures { λ r. ⌜ r ≡ readOf (now (bytes .entry)) ⌝ }
+    ensures numbered { λ r. ⌜ (numberSaid (r .answer) ≡ numberRead (now (bytes .entry))) × (placeSaid (r .answer) ≡ placeRead (now (bytes .entry))) ⌝ }
 {
     let verdict = header(bytes, 0, 0, 0);
     match verdict {

@@ -14,4 +14,4 @@ use Rattle.planwrite.proofs.write.Kinds as write-kinds
 
 pub write-exact : (κs : Lfts 1) (plan : Plan) (room : RefT (List ℕ)) (end end′ : AtExit (endedOf 1 write-kinds.ps write-kinds.r) κs) (r s : Written)
     → write.Post κs (plan, (room, tt)) r end → write.Post κs (plan, (room, tt)) s end′ → (r ≡ s) × (end .1 .0 .now ≡ end′ .1 .0 .now)
-write-exact κs plan room end end′ r s p q = (p .0 ∙ sym (q .0), p .1 ∙ sym (q .1))
+write-exact κs plan room end end′ r s p q = (p .0 .0 ∙ sym (q .0 .0), p .0 .1 ∙ sym (q .0 .1))

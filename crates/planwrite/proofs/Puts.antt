@@ -1,11 +1,12 @@
 -- Filling room from a place on: one run of bytes after the other, and how many bytes each part of a file has. Assumes nothing.
 use mathlib.Core.Path.{_≡_, refl, sym, ap, _∙_}
+use mathlib.Core.Bool.{Bool, true, false, not, cond, true≢false}
 use mathlib.Core.List.{List, [], _∷_, _++_, append-assoc}
 use Prim.Native.Nat.{ℕ, zero, suc, _+_, _-_, _*_, _%_, _≤_, _<_}
 use native.Mathlib.Numerals.{add-one}
 use native.Mathlib.Omega.{arith}
 use lib.ListN.{length, getD, take, drop, set, length-append, length-take, drop-of-length-le}
-use lib.Seq.{drop-cons, sets, getD-take}
+use lib.Seq.{drop-cons, sets, getD-take, length-sets}
 use Rattle.plan.specs.declared.Types.{Types}
 use Rattle.plan.specs.declared.Subscriber.{Subscriber}
 use Rattle.plan.specs.Parts.{nobody, at}
@@ -121,3 +122,36 @@ pub fields-put : (subs : List Subscriber) (count i : ℕ) (l : List ℕ) (place 
 fields-put subs count i l place long few h =
     ap (sets l place) (fields-next subs count i long few h)
     ∙ sets-append (field 5 (subscriberBody (at subs i))) (subscriberFields (drop (i + 1) (take count subs))) l place
+
+-- ---- a run that is put, or only counted
+
+pub put-room : (put : Bool) {n m : ℕ} → not put ≡ false → cond put n 0 ≤ m → n ≤ m
+put-room true e h = h
+put-room false e h = absurd (true≢false e)
+
+pub put-less : (put : Bool) {k : ℕ} (n : ℕ) {m : ℕ} → cond put n 0 ≤ m → k ≤ n → cond put k 0 ≤ m
+put-less true n h less = omega arith
+put-less false n h less = h
+
+pub put-length : (put : Bool) (l xs : List ℕ) (place : ℕ) → length (cond put (sets l place xs) l) ≡ length l
+put-length true l xs place = simp length-sets
+put-length false l xs place = refl
+
+pub put-is : (put : Bool) (l xs : List ℕ) (place : ℕ) {m : List ℕ} → not put ≡ false → m ≡ sets l place xs → m ≡ cond put (sets l place xs) l
+put-is true l xs place e p = p
+put-is false l xs place e p = absurd (true≢false e)
+
+pub put-not : (put : Bool) (l xs : List ℕ) (place : ℕ) → not put ≡ true → l ≡ cond put (sets l place xs) l
+put-not true l xs place e = absurd (true≢false (sym e))
+put-not false l xs place e = refl
+
+pub put-none : (put : Bool) (l : List ℕ) (place : ℕ) → cond put (sets l place []) l ≡ l
+put-none true l place = refl
+put-none false l place = refl
+
+-- one more subscriber
+pub put-next : (put : Bool) (subs : List Subscriber) (count i : ℕ) (l : List ℕ) (place : ℕ) {m : List ℕ} {to : ℕ} → length subs ≡ 256 → count ≤ 256 → i < count
+    → m ≡ cond put (sets l place (field 5 (subscriberBody (at subs i)))) l → to ≡ place + length (field 5 (subscriberBody (at subs i)))
+    → cond put (sets m to (subscriberFields (drop (i + 1) (take count subs)))) m ≡ cond put (sets l place (subscriberFields (drop i (take count subs)))) l
+put-next true subs count i l place long few h e f = rw (e, f) (sym (fields-put subs count i l place long few h))
+put-next false subs count i l place long few h e f = e

@@ -5,6 +5,9 @@ use mathlib.Core.List.{List, _++_}
 use lib.Dec.{leb}
 use lib.ListN.{length, drop}
 use Rattle.refusal.specs.declared.Refusal.the-variants.{RuleBroken, RoomTooShort}
+use Rattle.refusal.specs.declared.Place.{Place}
+use Rattle.refusal.specs.declared.Place.the-variants.{Nowhere}
+use Rattle.refusal.specs.Numbers.{numberOf, placeOf}
 use Rattle.plan.specs.declared.Plan.{Plan}
 use Rattle.plan.specs.Sound.{sound}
 use Rattle.planwrite.specs.declared.Written.{Written}
@@ -28,3 +31,12 @@ written p room = answerOf (sound p) (leb (length (bytesOf p)) (length room)) (le
 
 unfoldable pub roomAfter : Plan → List ℕ → List ℕ
 roomAfter p room = roomOf (sound p) (leb (length (bytesOf p)) (length room)) (bytesOf p) room
+
+-- the answer in document 01's numbers: 0 for a file that was written, else the number of the refusal; and the refusal's place
+abbrev pub numberWritten : Written → ℕ
+numberWritten (Bytes n) = 0
+numberWritten (Refused r) = numberOf r
+
+abbrev pub placeWritten : Written → Place
+placeWritten (Bytes n) = Nowhere
+placeWritten (Refused r) = placeOf r

@@ -1,12 +1,16 @@
 // A sound plan written into lent room as a plan file.
 ghost use mathlib.Core.Path.{_≡_};
+ghost use mathlib.Core.Bool.{_&&_, cond};
 ghost use mathlib.Core.List.{[], _∷_, _++_};
 ghost use Prim.Native.Nat.{_+_, _*_, _≤_, _<_};
+ghost use lib.Dec.{leb};
 ghost use lib.ListN.{length, take};
 ghost use lib.Seq.{sets};
+ghost use Rattle.refusal.specs.declared.Place.the-variants.{Nowhere, At};
+ghost use Rattle.plan.specs.Sound.{sound};
 ghost use Rattle.planbytes.specs.Numbers.{high, row};
-ghost use Rattle.planbytes.specs.Format.{field, versionBody, typesBody, orderBody, subscriberBody, headFields, subscriberFields};
-ghost use Rattle.planwrite.specs.Writing.{written, roomAfter};
+ghost use Rattle.planbytes.specs.Format.{field, versionBody, typesBody, orderBody, subscriberBody, headFields, subscriberFields, bytesOf};
+ghost use Rattle.planwrite.specs.Writing.{written, roomAfter, numberWritten, placeWritten};
 use plan::Plan;
 use plan::Subscriber;
 use plan::Types;
@@ -147,50 +151,52 @@ fn put_fixed(room: &mut [u8], at: usize, s: Subscriber)
     put_four(room, at + 9, s.target);
 }
 
-// A subscriber's field; the place after it.
-fn put_subscriber(room: &mut [u8], at: usize, s: Subscriber) -> usize
-    requires { ⌜ at + length (field 5 (subscriberBody s)) ≤ length (now room) ⌝ }
-    ensures { λ r. ⌜ (now (room .exit) ≡ sets (now (room .entry)) at (field 5 (subscriberBody s))) × (r ≡ at + length (field 5 (subscriberBody s))) ⌝ }
+// A subscriber's field, put into the room or only counted; the place after it.
+fn put_subscriber(room: &mut [u8], at: usize, s: Subscriber, put: bool) -> usize
+    requires { ⌜ (at ≤ 6409) × (cond put (at + length (field 5 (subscriberBody s))) 0 ≤ length (now room)) ⌝ }
+    ensures { λ r. ⌜ (now (room .exit) ≡ cond put (sets (now (room .entry)) at (field 5 (subscriberBody s))) (now (room .entry)))
+        × (r ≡ at + length (field 5 (subscriberBody s))) × (r ≤ at + 24) ⌝ }
 {
     let count = used(s);
-    let size = field_size(s);
+    let end = at + field_size(s);
+    if !put {
+        return end;
+    }
     let boxes = s.boxes;
     put_header(room, at, 5, 13 + 2 * count as u32);
     put_fixed(room, at + 3, s);
     put_boxes(room, at + 16, boxes, count);
-    at + size
+    end
 }
 
-// A field for each of the first count subscribers, after the head; the place after them.
-fn put_subscribers(room: &mut [u8], subscribers: [Subscriber; 256], count: usize) -> usize
-    requires { ⌜ (count ≤ 256) × (289 + length (subscriberFields (take count subscribers)) ≤ length (now room)) ⌝ }
-    ensures { λ r. ⌜ (now (room .exit) ≡ sets (now (room .entry)) 289 (subscriberFields (take count subscribers)))
-        × (r ≡ 289 + length (subscriberFields (take count subscribers))) ⌝ }
+// A field for each of the first count subscribers, after the head, put into the room or only counted; the place after them.
+fn put_subscribers(
+    room: &mut [u8],
+    subscribers: [Subscriber; 256],
+    count: usize,
+    put: bool,
+) -> usize
+    requires { ⌜ (count ≤ 256) × (cond put (289 + length (subscriberFields (take count subscribers))) 0 ≤ length (now room)) ⌝ }
+    ensures { λ r. ⌜ (now (room .exit) ≡ cond put (sets (now (room .entry)) 289 (subscriberFields (take count subscribers))) (now (room .entry)))
+        × (r ≡ 289 + length (subscriberFields (take count subscribers))) × (r ≤ 6433) ⌝ }
 {
     let mut at = 289usize;
-    for i in 0usize..count {
+    let mut i = 0usize;
+    let mut left = count;
+    while 0 < left {
         let s = subscribers[i];
-        at = put_subscriber(room, at, s);
+        at = put_subscriber(room, at, s, put);
+        i += 1;
+        left -= 1;
     }
     at
-}
-
-// How many bytes the fields of the first count subscribers have.
-fn fields_size(subscribers: [Subscriber; 256], count: usize) -> usize
-    requires { ⌜ count ≤ 256 ⌝ }
-    ensures { λ r. ⌜ (r ≡ length (subscriberFields (take count subscribers))) × (r ≤ 6144) ⌝ }
-{
-    let mut size = 0usize;
-    for k in 0usize..count {
-        let s = subscribers[k];
-        size = size + field_size(s);
-    }
-    size
 }
 
 // A sound plan's file into the room, if it fits in: how many bytes it has. The bytes past it stay.
 pub fn write(plan: Plan, room: &mut [u8]) -> Written
     ensures { λ r. ⌜ (r ≡ written plan (now (room .entry))) × (now (room .exit) ≡ roomAfter plan (now (room .entry))) ⌝ }
+    ensures numbered { λ r. ⌜ (numberWritten r ≡ cond (sound plan) (cond (leb (length (bytesOf plan)) (length (now (room .entry)))) 0 25) 23)
+        × (placeWritten r ≡ cond (sound plan && leb (length (bytesOf plan)) (length (now (room .entry)))) Nowhere (At 0)) ⌝ }
 {
     let types = plan.types;
     let source = plan.source_order;
@@ -200,12 +206,13 @@ pub fn write(plan: Plan, room: &mut [u8]) -> Written
     if !plan::sound(plan) {
         return Written::Refused(Refusal::RuleBroken(0));
     }
-    let size = 292 + fields_size(subscribers, count);
+    let end = put_subscribers(room, subscribers, count, false);
+    let size = end + 3;
     if room.len() < size {
         return Written::Refused(Refusal::RoomTooShort(0));
     }
     put_head(room, types, source, target);
-    let end = put_subscribers(room, subscribers, count);
+    put_subscribers(room, subscribers, count, true);
     put_header(room, end, 127, 0);
     Written::Bytes(size)
 }

@@ -1,6 +1,7 @@
 -- `planread::read` meets its contract. Assumes nothing.
 use mathlib.Core.Path.{sym, _∙_}
 use native.Mathlib.Omega.{arith}
+use Rattle.planread.proofs.Said.{said}
 use Rattle.planread.proofs.Turns.{version-room, version-broken, version-on, version-refused}
 use borrow.Author.Tests.{eq-eqb, ne-eqb}
 use borrow.Author.Needs.{needs}
@@ -26,16 +27,16 @@ refused-requires-2 : tie.Need-refused-requires-2
 refused-requires-2 c κs = search needs
 
 returns : tie.Need-returns
-returns c = c .refused2 .ensures ∙ sym (version-broken (c .before .before .before .before .before .before .before .args .bytes .now) (sym (c .before .before .before .before .before .header .ensures) ∙ c .before .before .before .enum-told .given .1) (ne-eqb _ 1 (c .before .if1 .taken)))
+returns c = said (c .before .before .before .before .before .before .before .args .bytes .now) (c .refused2 .ensures ∙ sym (version-broken (c .before .before .before .before .before .before .before .args .bytes .now) (sym (c .before .before .before .before .before .header .ensures) ∙ c .before .before .before .enum-told .given .1) (ne-eqb _ 1 (c .before .if1 .taken))))
 
 read-types-requires : tie.Need-read-types-requires
 read-types-requires c κs = version-room (c .before .before .before .before .before .before .args .bytes .now) (sym (c .before .before .before .before .header .ensures) ∙ c .before .before .enum-told .given .1)
 
 returns-2 : tie.Need-returns-2
-returns-2 c = c .refused .ensures ∙ sym (version-refused (c .before .before .before .before .before .before .args .bytes .now) (sym (c .before .before .before .before .header .ensures) ∙ c .before .before .verdict .given .1))
+returns-2 c = said (c .before .before .before .before .before .before .args .bytes .now) (c .refused .ensures ∙ sym (version-refused (c .before .before .before .before .before .before .args .bytes .now) (sym (c .before .before .before .before .header .ensures) ∙ c .before .before .verdict .given .1)))
 
 returns-3 : tie.Need-returns-3
-returns-3 c = c .read-types .ensures ∙ sym (version-on (c .before .before .before .before .before .before .before .args .bytes .now) (sym (c .before .before .before .before .before .header .ensures) ∙ c .before .before .before .enum-told .given .1) (eq-eqb _ 1 (c .before .if1 .left)))
+returns-3 c = said (c .before .before .before .before .before .before .before .args .bytes .now) (c .read-types .ensures ∙ sym (version-on (c .before .before .before .before .before .before .before .args .bytes .now) (sym (c .before .before .before .before .before .header .ensures) ∙ c .before .before .before .enum-told .given .1) (eq-eqb _ 1 (c .before .if1 .left))))
 
 pub read-spec : {M : Type 1} → statement M
 read-spec =

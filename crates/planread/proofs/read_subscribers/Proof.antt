@@ -20,11 +20,11 @@ Inv-loop bytes types source target taken₀ subscribers₀ count₀ last₀ at�
 abbrev μ-loop : tie.MeasureT-loop
 μ-loop bytes types source target taken₀ subscribers₀ count₀ last₀ at₀ taken subscribers count last at = 257 - count
 
-nobody-requires : tie.Need-nobody-requires Inv-loop μ-loop
-nobody-requires c κs = search needs
+no-subscriber-requires : tie.Need-no-subscriber-requires Inv-loop μ-loop
+no-subscriber-requires c κs = search needs
 
 loop-holds : tie.Need-loop-holds Inv-loop μ-loop
-loop-holds c = rw (c .nobody .ensures) (going-none (c .before .before .args .bytes .now) (c .before .before .args .types) (c .before .before .args .source) (c .before .before .args .target) (c .before .before .pre .0) (c .before .before .pre .1))
+loop-holds c = rw (c .no-subscriber .ensures) (going-none (c .before .before .args .bytes .now) (c .before .before .args .types) (c .before .before .args .source) (c .before .before .args .target) (c .before .before .pre .0) (c .before .before .pre .1))
 
 header-requires : tie.Need-header-requires Inv-loop μ-loop
 header-requires c κs = (omega arith, c .loop .inv .inside)
@@ -120,7 +120,7 @@ read-subscribers-spec =
     (tie.spec
     Inv-loop
     μ-loop
-    nobody-requires
+    no-subscriber-requires
     loop-holds
     header-requires
     enum-known-verdict

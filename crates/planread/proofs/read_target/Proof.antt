@@ -2,7 +2,7 @@
 use mathlib.Core.Path.{sym, _∙_}
 use native.Mathlib.Omega.{arith}
 use Rattle.typeset.proofs.Bools.{passed, failed}
-use Rattle.planread.specs.Reading.{nobody, planOf}
+use Rattle.planread.specs.Reading.{noSubscriber, planOf}
 use lib.ListN.{drop, replicate}
 use Rattle.planread.proofs.Turns.{target-room, target-broken, target-on}
 use Rattle.planread.proofs.Steps.{read-refused}
@@ -25,23 +25,23 @@ enum-told c = search needs
 order-at-requires : tie.Need-order-at-requires
 order-at-requires c κs = omega (arith, target-room (c .before .before .before .before .args .bytes .now) (sym (c .before .before .header .ensures) ∙ c .enum-told .given .1))
 
-target-sound-requires : tie.Need-target-sound-requires
-target-sound-requires c κs = search needs
+due-requires : tie.Need-due-requires
+due-requires c κs = search needs
 
 refused-requires-2 : tie.Need-refused-requires-2
 refused-requires-2 c κs = search needs
 
 returns : tie.Need-returns
-returns c = c .refused2 .ensures ∙ sym (target-broken (c .before .before .before .before .before .before .before .before .args .bytes .now) (sym (c .before .before .before .before .before .before .header .ensures) ∙ c .before .before .before .before .enum-told .given .1) (c .before .before .before .before .before .before .before .before .args .types) (c .before .before .before .before .before .before .before .before .args .source) (replicate 256 nobody) (c .before .before .before .order-at .ensures) _ (failed (c .before .before .target-sound .ensures) (c .before .if1 .taken)))
+returns c = c .refused2 .ensures ∙ sym (target-broken (c .before .before .before .before .before .before .before .before .args .bytes .now) (sym (c .before .before .before .before .before .before .header .ensures) ∙ c .before .before .before .before .enum-told .given .1) (c .before .before .before .before .before .before .before .before .args .types) (c .before .before .before .before .before .before .before .before .args .source) (replicate 256 noSubscriber) (c .before .before .before .order-at .ensures) _ (failed (c .before .before .due .ensures) (c .before .if1 .taken)))
 
 read-subscribers-requires : tie.Need-read-subscribers-requires
 read-subscribers-requires c κs = (target-room (c .before .before .before .before .before .before .before .before .args .bytes .now) (sym (c .before .before .before .before .before .before .header .ensures) ∙ c .before .before .before .before .enum-told .given .1), search needs)
 
 returns-2 : tie.Need-returns-2
-returns-2 c = c .refused .ensures ∙ sym (read-refused 257 3 (planOf (c .before .before .before .before .before .before .args .types) (c .before .before .before .before .before .before .args .source) (replicate 32 0) (replicate 256 nobody) 0) 158 (drop 158 (c .before .before .before .before .before .before .args .bytes .now)) (sym (c .before .before .before .before .header .ensures) ∙ c .before .before .verdict .given .1))
+returns-2 c = c .refused .ensures ∙ sym (read-refused 257 3 (planOf (c .before .before .before .before .before .before .args .types) (c .before .before .before .before .before .before .args .source) (replicate 32 0) (replicate 256 noSubscriber) 0) 158 (drop 158 (c .before .before .before .before .before .before .args .bytes .now)) (sym (c .before .before .before .before .header .ensures) ∙ c .before .before .verdict .given .1))
 
 returns-3 : tie.Need-returns-3
-returns-3 c = c .read-subscribers .ensures ∙ sym (target-on (c .before .before .before .before .before .before .before .before .before .args .bytes .now) (sym (c .before .before .before .before .before .before .before .header .ensures) ∙ c .before .before .before .before .before .enum-told .given .1) (c .before .before .before .before .before .before .before .before .before .args .types) (c .before .before .before .before .before .before .before .before .before .args .source) (replicate 256 nobody) (c .before .before .before .before .order-at .ensures) _ (passed (c .before .before .before .target-sound .ensures) (c .before .before .if1 .left)))
+returns-3 c = c .read-subscribers .ensures ∙ sym (target-on (c .before .before .before .before .before .before .before .before .before .args .bytes .now) (sym (c .before .before .before .before .before .before .before .header .ensures) ∙ c .before .before .before .before .before .enum-told .given .1) (c .before .before .before .before .before .before .before .before .before .args .types) (c .before .before .before .before .before .before .before .before .before .args .source) (replicate 256 noSubscriber) (c .before .before .before .before .order-at .ensures) _ (passed (c .before .before .before .due .ensures) (c .before .before .if1 .left)))
 
 pub read-target-spec : {M : Type 1} → statement M
 read-target-spec =
@@ -52,7 +52,7 @@ read-target-spec =
     refused-requires
     enum-told
     order-at-requires
-    target-sound-requires
+    due-requires
     refused-requires-2
     returns
     read-subscribers-requires

@@ -23,14 +23,14 @@ enum-told c = search needs
 types-at-requires : tie.Need-types-at-requires
 types-at-requires c κs = omega (arith, types-room (c .before .before .before .before .args .bytes .now) (sym (c .before .before .header .ensures) ∙ c .enum-told .given .1))
 
-types-sound-requires : tie.Need-types-sound-requires
-types-sound-requires c κs = search needs
+due-requires : tie.Need-due-requires
+due-requires c κs = search needs
 
 refused-requires-2 : tie.Need-refused-requires-2
 refused-requires-2 c κs = search needs
 
 returns : tie.Need-returns
-returns c = c .refused2 .ensures ∙ sym (types-broken (c .before .before .before .before .before .before .before .before .args .bytes .now) (sym (c .before .before .before .before .before .before .header .ensures) ∙ c .before .before .before .before .enum-told .given .1) (c .before .before .before .types-at .ensures) (failed (c .before .before .types-sound .ensures) (c .before .if1 .taken)))
+returns c = c .refused2 .ensures ∙ sym (types-broken (c .before .before .before .before .before .before .before .before .args .bytes .now) (sym (c .before .before .before .before .before .before .header .ensures) ∙ c .before .before .before .before .enum-told .given .1) (c .before .before .before .types-at .ensures) (failed (c .before .before .due .ensures) (c .before .if1 .taken)))
 
 read-source-requires : tie.Need-read-source-requires
 read-source-requires c κs = types-room (c .before .before .before .before .before .before .before .args .bytes .now) (sym (c .before .before .before .before .before .header .ensures) ∙ c .before .before .before .enum-told .given .1)
@@ -39,7 +39,7 @@ returns-2 : tie.Need-returns-2
 returns-2 c = c .refused .ensures ∙ sym (types-refused (c .before .before .before .before .before .before .args .bytes .now) (sym (c .before .before .before .before .header .ensures) ∙ c .before .before .verdict .given .1))
 
 returns-3 : tie.Need-returns-3
-returns-3 c = c .read-source .ensures ∙ sym (types-on (c .before .before .before .before .before .before .before .before .args .bytes .now) (sym (c .before .before .before .before .before .before .header .ensures) ∙ c .before .before .before .before .enum-told .given .1) (c .before .before .before .types-at .ensures) (passed (c .before .before .types-sound .ensures) (c .before .if1 .left)))
+returns-3 c = c .read-source .ensures ∙ sym (types-on (c .before .before .before .before .before .before .before .before .args .bytes .now) (sym (c .before .before .before .before .before .before .header .ensures) ∙ c .before .before .before .before .enum-told .given .1) (c .before .before .before .types-at .ensures) (passed (c .before .before .due .ensures) (c .before .if1 .left)))
 
 pub read-types-spec : {M : Type 1} → statement M
 read-types-spec =
@@ -50,7 +50,7 @@ read-types-spec =
     refused-requires
     enum-told
     types-at-requires
-    types-sound-requires
+    due-requires
     refused-requires-2
     returns
     read-source-requires

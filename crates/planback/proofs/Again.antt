@@ -1,0 +1,63 @@
+-- A plan that is written and read again: what the two functions' answers say together. Assumes nothing.
+use mathlib.Core.Path.{_≡_, refl, sym, ap, _∙_}
+use mathlib.Core.Bool.{Bool, true, false, false≢true}
+use mathlib.Core.List.{List, []}
+use Prim.Native.Nat.{ℕ, _≤_}
+use native.Mathlib.Omega.{arith}
+use lib.Dec.{leb}
+use lib.ListN.{length, take, drop, length-append}
+use borrow.Author.Tests.{leb-true}
+use Rattle.refusal.specs.declared.Refusal.{Refusal}
+use Rattle.plan.specs.declared.Plan.{Plan}
+use Rattle.plan.specs.declared.Verdict.the-variants.{Refused}
+use Rattle.plan.specs.Sound.{sound}
+use Rattle.planbytes.specs.Format.{bytesOf}
+use Rattle.planread.specs.declared.Reading.{Reading}
+use Rattle.planread.specs.Reading.{blankPlan, accepted, refused, readOf, readFrom, verdictAt, header}
+use Rattle.planwrite.specs.declared.Written.{Written}
+use Rattle.planwrite.specs.declared.Written.the-variants as written-variants
+use Rattle.planwrite.specs.Writing.{answerOf, written, roomAfter}
+use Rattle.planfile.specs.Typed.{Typed}
+use Rattle.planback.specs.Back.{comesBack}
+use Rattle.planfile.proofs.Theorems.{write-then-read}
+
+abbrev isBytes : Written → Bool
+isBytes (written-variants.Bytes n) = true
+isBytes (written-variants.Refused r) = false
+
+abbrev bytesIn : Written → ℕ
+bytesIn (written-variants.Bytes n) = n
+bytesIn (written-variants.Refused r) = 0
+
+answer-bytes : (kept fits : Bool) (m n : ℕ) → answerOf kept fits m ≡ written-variants.Bytes n → (kept ≡ true) × (fits ≡ true) × (m ≡ n)
+answer-bytes false fits m n e = absurd (false≢true (ap isBytes e))
+answer-bytes true false m n e = absurd (false≢true (ap isBytes e))
+answer-bytes true true m n e = (refl, refl, ap bytesIn e)
+
+-- a plan of which n bytes were written is sound, and they are its file
+wrote : (p : Plan) (room : List ℕ) (n : ℕ) → written p room ≡ written-variants.Bytes n → (sound p ≡ true) × (leb (length (bytesOf p)) (length room) ≡ true) × (length (bytesOf p) ≡ n)
+unfolding written
+wrote p room n e = answer-bytes (sound p) (leb (length (bytesOf p)) (length room)) (length (bytesOf p)) n e
+
+module _ (p : Plan) (room : List ℕ) {w : Written} (e : w ≡ written p room) where
+  pub back-room : {n : ℕ} {a : List ℕ} → w ≡ written-variants.Bytes n → a ≡ roomAfter p room → n ≤ length a
+  unfolding roomAfter
+  back-room {n} f g =
+      let is = wrote p room n (sym e ∙ f) in
+      rw (g, is .0, is .1, length-append (bytesOf p) (drop (length (bytesOf p)) room)) (omega (arith, is .2))
+
+  pub back-read : {n : ℕ} {a : List ℕ} {r : Reading} → w ≡ written-variants.Bytes n → a ≡ roomAfter p room → Typed p → r ≡ readOf (take n a) → r ≡ comesBack (written p room) p
+  back-read {n} f g 𝓣 h =
+      let is = wrote p room n (sym e ∙ f) in
+      h ∙ rw (g, ← is .2) (write-then-read p (is .0) room (leb-true _ _ (is .1)) 𝓣) ∙ ap (λ (x : Written). comesBack x p) (sym f ∙ e)
+
+  pub back-refused : {r : Refusal} {x : Reading} → w ≡ written-variants.Refused r → x ≡ refused r → x ≡ comesBack (written p room) p
+  back-refused f h = h ∙ ap (λ (x : Written). comesBack x p) (sym f ∙ e)
+
+-- reading no bytes leaves the blank plan
+nothing-read : readOf [] .plan ≡ blankPlan
+unfolding readOf readFrom verdictAt header
+nothing-read = refl
+
+pub beside-refusal : (r : Refusal) {x : Reading} → x ≡ readOf [] → record { answer = Refused r; plan = x .plan } ≡ refused r
+beside-refusal r {x} e = let blank : x .plan ≡ blankPlan = ap (λ (y : Reading). y .plan) e ∙ nothing-read in λ i. record { answer = Refused r; plan = blank i }

@@ -1,0 +1,17 @@
+-- Any two results that a contract of this crate allows are equal, and so are any two contents of the room: read off the contract itself, as the function in
+-- src/ states it. (`held` hands nothing back.) Assumes nothing.
+use mathlib.Core.Path.{_≡_, sym, _∙_}
+use mathlib.Core.List.{List}
+use Prim.Native.Nat.{ℕ}
+use contract.Lifetimes.{Lfts}
+use denote.Ref.{RefT}
+use denote.Triple.Clauses.{AtExit}
+use borrow.Fn.Kinds.{endedOf}
+use Rattle.plan.specs.declared.Plan.{Plan}
+use Rattle.planread.specs.declared.Reading.{Reading}
+use Rattle.planback.proofs.there_and_back.Reads as there-and-back
+use Rattle.planback.proofs.there_and_back.Kinds as there-and-back-kinds
+
+pub there-and-back-exact : (κs : Lfts 1) (plan : Plan) (room : RefT (List ℕ)) (end end′ : AtExit (endedOf 1 there-and-back-kinds.ps there-and-back-kinds.r) κs) (r s : Reading)
+    → there-and-back.Post κs (plan, (room, tt)) r end → there-and-back.Post κs (plan, (room, tt)) s end′ → (r ≡ s) × (end .1 .0 .now ≡ end′ .1 .0 .now)
+there-and-back-exact κs plan room end end′ r s p q = (p .0 ∙ sym (q .0), p .1 ∙ sym (q .1))

@@ -1,0 +1,59 @@
+-- `planback::subscribers` meets its contract. Assumes nothing.
+use mathlib.Core.Path.{_≡_}
+use Prim.Native.Nat.{_-_, _≤_}
+use native.Mathlib.Omega.{arith}
+use borrow.Author.Needs.{needs}
+use lib.ListN.{length, take}
+use Rattle.planfile.specs.Typed.{AllTyped}
+use Rattle.planback.proofs.Ranges.{typed-none, typed-more, typed-all}
+use Rattle.planback.proofs.subscribers.Statement.{statement}
+use Rattle.planback.proofs.subscribers.Tie as tie
+
+abbrev Inv-loop : tie.InvT-loop
+Inv-loop all i₀ i = (i ≤ 256) × AllTyped (take i all)
+
+abbrev μ-loop : tie.MeasureT-loop
+μ-loop all i₀ i = 256 - i
+
+loop-holds : tie.Need-loop-holds Inv-loop μ-loop
+loop-holds c = (search needs, typed-none (c .args .t1))
+
+mul-s : tie.Need-mul-s Inv-loop μ-loop
+mul-s c = search needs
+
+array-copy-out-s : tie.Need-array-copy-out-s Inv-loop μ-loop
+array-copy-out-s c = search needs
+
+subscriber-requires : tie.Need-subscriber-requires Inv-loop μ-loop
+subscriber-requires c κs = search needs
+
+add-i : tie.Need-add-i Inv-loop μ-loop
+add-i c = search needs
+
+loop-less : tie.Need-loop-less Inv-loop μ-loop
+loop-less c = search needs
+
+loop-again : tie.Need-loop-again Inv-loop μ-loop
+loop-again c =
+    let long : length (c .before .before .before .before .args .t1) ≡ 256 = search needs in
+    (search needs, typed-more (c .before .before .before .before .args .t1) (c .before .before .before .loop .i) (omega arith) (c .before .before .before .loop .inv .1) (c .subscriber .ensures))
+
+returns : tie.Need-returns Inv-loop μ-loop
+returns c =
+    let long : length (c .before .before .args .t1) ≡ 256 = search needs in
+    (typed-all (c .before .before .args .t1) (c .before .loop .i) (omega arith) (c .before .loop .inv .1), long)
+
+pub subscribers-spec : {M : Type 1} → statement M
+subscribers-spec =
+    tie.close
+    (tie.spec
+    Inv-loop
+    μ-loop
+    loop-holds
+    mul-s
+    array-copy-out-s
+    subscriber-requires
+    add-i
+    loop-less
+    loop-again
+    returns)

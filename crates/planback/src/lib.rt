@@ -1,0 +1,114 @@
+// The theorems of the plan file, brought to any plan that a program holds: its numbers fit their fields and its arrays have their lengths, and written and read again it is
+// the same plan.
+ghost use mathlib.Core.Path.{_≡_};
+ghost use Prim.Native.Nat.{_^_, _<_, _≤_};
+ghost use lib.ListN.{length, take};
+ghost use Rattle.planbytes.specs.Numbers.{Below};
+ghost use Rattle.planfile.specs.Typed.{TypedSubscriber, AllTyped, Typed};
+ghost use Rattle.planread.specs.Reading.{readOf, refused};
+ghost use Rattle.planwrite.specs.Writing.{written, roomAfter};
+ghost use Rattle.planback.specs.Back.{comesBack};
+use plan::Plan;
+use plan::Subscriber;
+use plan::Verdict;
+use planread::Reading;
+use planwrite::Written;
+use refusal::Refusal;
+
+fn narrow(n: u8)
+    ensures { λ r. ⌜ n < 2 ^ 8 ⌝ }
+{}
+
+fn middle(n: u16)
+    ensures { λ r. ⌜ n < 2 ^ 16 ⌝ }
+{}
+
+fn wide(n: u32)
+    ensures { λ r. ⌜ n < 2 ^ 32 ⌝ }
+{}
+
+fn boxes(numbers: [u16; 4])
+    ensures { λ r. ⌜ Below (2 ^ 16) numbers × (length numbers ≡ 4) ⌝ }
+{
+    for x in 0usize..4usize {
+        middle(numbers[x]);
+    }
+}
+
+fn rows(order: [u32; 32])
+    ensures { λ r. ⌜ Below (2 ^ 32) order × (length order ≡ 32) ⌝ }
+{
+    for t in 0usize..32usize {
+        wide(order[t]);
+    }
+}
+
+fn subscriber(s: Subscriber)
+    ensures { λ r. ⌜ TypedSubscriber s ⌝ }
+{
+    let numbers = s.boxes;
+    narrow(s.kind);
+    wide(s.address);
+    wide(s.source);
+    wide(s.target);
+    boxes(numbers);
+}
+
+fn subscribers(all: [Subscriber; 256])
+    ensures { λ r. ⌜ AllTyped all × (length all ≡ 256) ⌝ }
+{
+    for i in 0usize..256usize {
+        let s = all[i];
+        subscriber(s);
+    }
+}
+
+// Any plan that a program holds.
+pub fn held(plan: Plan)
+    ensures { λ r. ⌜ Typed plan ⌝ }
+{
+    let source = plan.source_order;
+    let target = plan.target_order;
+    let all = plan.subscribers;
+    let types = plan.types;
+    wide(types.existing);
+    wide(types.bound);
+    wide(types.reversible);
+    wide(types.source_choice);
+    wide(types.target_choice);
+    rows(source);
+    rows(target);
+    subscribers(all);
+}
+
+// The first n bytes of a file, read.
+fn read_first(file: &[u8], n: usize) -> Reading
+    requires { ⌜ n ≤ length (now file) ⌝ }
+    ensures { λ r. ⌜ r ≡ readOf (take n (now (file .entry))) ⌝ }
+{
+    planread::read(&file[..n])
+}
+
+// A refusal of the writer; beside it stands the plan that reading no bytes leaves.
+fn unwritten(file: &[u8], r: Refusal) -> Reading
+    ensures { λ x. ⌜ x ≡ refused r ⌝ }
+{
+    let reading = read_first(file, 0);
+    let plan = reading.plan;
+    Reading {
+        answer: Verdict::Refused(r),
+        plan,
+    }
+}
+
+// A plan written into the room, and read from it again.
+pub fn there_and_back(plan: Plan, room: &mut [u8]) -> Reading
+    ensures { λ r. ⌜ (r ≡ comesBack (written plan (now (room .entry))) plan) × (now (room .exit) ≡ roomAfter plan (now (room .entry))) ⌝ }
+{
+    held(plan);
+    let answer = planwrite::write(plan, room);
+    match answer {
+        Written::Refused(r) => unwritten(room, r),
+        Written::Bytes(n) => read_first(room, n),
+    }
+}
