@@ -1,7 +1,7 @@
 -- The manual's equations (5.4, 5.5, 5.6) as records, and that what is answered keeps them: whatever the plan, the box and the arguments, where a setup is made, `(answer) .setup` is well
 -- formed and has these fields. In them an argument 0 is `noAddr`, an empty string `noString`. Beside a refusal stands the blank setup. Assumes nothing.
 use mathlib.Core.Path.{_≡_, refl, sym, ap, subst, _∙_}
-use mathlib.Core.Bool.{Bool, true, false, not, _&&_, _||_, false≢true}
+use mathlib.Core.Bool.{true, false, not, _||_, false≢true}
 use mathlib.Core.List.{List}
 use Prim.Native.Nat.{ℕ}
 use lib.Dec.{eqb}
@@ -26,7 +26,6 @@ use Rattle.making.specs.declared.Maker.{Maker}
 use Rattle.making.specs.declared.Maker.the-variants.{Feature, Line, Trunk, Resource, Error}
 use Rattle.making.specs.declared.Outcome.{Outcome}
 use Rattle.making.specs.declared.Outcome.the-variants.{Made, Refused}
-use Rattle.making.specs.declared.Answer.{Answer}
 use Rattle.making.specs.Making.{boxAddress, boxType, kindOf, somebody, makesMore, addressHeld, newSetup, continuedSetup, turned, reversedSetup, isList, notOwn, newOutcome, continuedOutcome, reversedOutcome, blankSetup, answered, newAnswer, continuedAnswer, reversedAnswer}
 use Rattle.making.proofs.Outcomes.{new-made, continued-made, reversed-made}
 use Rattle.making.proofs.WellFormed.{new-well-formed, continued-well-formed, reversed-well-formed}

@@ -6,13 +6,8 @@ use mathlib.Core.List.{List}
 use Prim.Native.Nat.{ℕ}
 use lib.Dec.{eqb}
 use lib.ListN.{length}
-use Rattle.plan.specs.declared.Region.{Region}
 use Rattle.plan.specs.declared.Region.the-variants.{Source, Target}
-use Rattle.zone.specs.declared.Zone.{Zone}
-use Rattle.setup.specs.declared.Dialled.{Dialled}
-use Rattle.setup.specs.declared.Route.{Route}
 use Rattle.setup.specs.declared.Route.the-variants.{Whole, Suffix, Listed}
-use Rattle.setup.specs.declared.Placing.{Placing}
 use Rattle.setup.specs.declared.Placing.the-variants.{NoPlacing, PlacedBy}
 use Rattle.setup.specs.declared.Outer.the-variants.{NoOuter, OuterAt}
 use Rattle.setup.specs.declared.Setup.{Setup}

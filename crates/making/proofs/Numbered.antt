@@ -3,10 +3,9 @@
 -- Assumes nothing.
 use mathlib.Core.Path.{_≡_, refl, sym, ap, _∙_}
 use mathlib.Core.Logic.{⊎-elim, _↔_}
-use mathlib.Core.Bool.{Bool, true, false, not, _&&_, _||_, cond, true≢false, false≢true}
+use mathlib.Core.Bool.{Bool, true, false, not, _&&_, _||_, cond, true≢false}
 use mathlib.Core.List.{List, [], _∷_, map}
 use Prim.Native.Nat.{ℕ}
-use native.Mathlib.Omega.{arith}
 use lib.Dec.{eqb}
 use borrow.Author.Tests.{eqb-true, eq-eqb, ne-eqb, eqb-false}
 use Rattle.typeset.specs.Sets.{has}
@@ -30,7 +29,7 @@ use Rattle.making.specs.declared.Outcome.{Outcome}
 use Rattle.making.specs.declared.Outcome.the-variants.{Made, Refused}
 use Rattle.making.specs.declared.Answer.{Answer}
 use Rattle.making.specs.Making.{boxAddress, boxType, typeExists, makesNew, makesMore, addressHeld, turned, unless, isList, notOwn, newSetup, continuedSetup, reversedSetup, newOutcome, continuedOutcome, reversedOutcome, answered, newAnswer, continuedAnswer, reversedAnswer, numberOfOutcome, placeOfOutcome}
-use Rattle.making.specs.Rows.{Row, row, firstOf, noneOf, givenIn, ownGiven, tooLarge, newRows, continuedRows, reversedRows}
+use Rattle.making.specs.Rows.{Row, firstOf, noneOf, givenIn, ownGiven, tooLarge, newRows, continuedRows, reversedRows}
 
 -- ---- any list of rows
 

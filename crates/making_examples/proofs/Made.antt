@@ -1,10 +1,9 @@
 -- P5 to P8 of document 01 as far as they make setups: what each box is answered, computed from the definitions on the teaching plan. Assumes nothing.
-use mathlib.Core.Path.{_≡_, refl, ap, _∙_}
-use mathlib.Core.List.{[], _∷_}
+use mathlib.Core.Path.{_≡_}
+use mathlib.Core.List.{[]}
 use Rattle.typeset.specs.Sets.{has, every, some, least, count, setOf, without, lowest, size, minus}
 use Rattle.plan.specs.declared.Region.the-variants.{Source}
 use Rattle.plan.specs.Parts.{legal, given}
-use Rattle.plan.specs.Sound.{sound}
 use Rattle.plan.specs.Find.{used, firstWith, lookup}
 use Rattle.order.specs.Rules.{precedes}
 use Rattle.zone.specs.Order.{held, preceded, unpreceded, next, zoneFrom, zoneList}
@@ -17,9 +16,7 @@ use Rattle.setup.specs.declared.Outer.the-variants.{NoOuter}
 use Rattle.setup.specs.Dialling.{symbol, legalString, padded, dialled, stringOf, legalDialled}
 use Rattle.setup.specs.Setups.{routingAddress, listOf, endPart, inRange, listFits, faultIn, fault, wellFormed}
 use Rattle.making.specs.declared.Maker.the-variants.{Feature, Line}
-use Rattle.making.specs.declared.Outcome.{Outcome}
 use Rattle.making.specs.declared.Outcome.the-variants.{Made}
-use Rattle.making.specs.declared.Answer.{Answer}
 use Rattle.making.specs.Making.{newSetup, further, continuedSetup, reversedSetup, notOwn, newOutcome, continuedOutcome, reversedOutcome, answered, newAnswer, continuedAnswer, reversedAnswer}
 use Rattle.making_examples.specs.Setups.{dialled300, setupOf, p5Sent, p6Received, p6Sent, p7Received, p7Sent, p7ReceivedAt700, p7SentAgain, p8Stored, p8Sent}
 
