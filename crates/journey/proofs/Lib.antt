@@ -1,2 +1,3 @@
 pub mod Walks
 pub mod Accepted
+pub mod Texts
