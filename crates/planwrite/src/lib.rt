@@ -206,6 +206,7 @@ pub fn write(plan: Plan, room: &mut [u8]) -> Written
     if !plan::sound(plan) {
         return Written::Refused(Refusal::RuleBroken(0));
     }
+    // Only counted: no byte is written before the room is known to be long enough. The end field has three bytes.
     let end = put_subscribers(room, subscribers, count, false);
     let size = end + 3;
     if room.len() < size {
