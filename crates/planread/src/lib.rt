@@ -49,7 +49,7 @@ fn four(bytes: &[u8], at: usize) -> u32
 
 // ---- what the body of a field says, from the place where it begins
 
-// The five sets.
+// The five sets, four bytes each.
 fn types_at(bytes: &[u8], at: usize) -> Types
     requires { ⌜ at + 20 ≤ length (now bytes) ⌝ }
     ensures { λ r. ⌜ r ≡ typesIn (drop at (now (bytes .entry))) ⌝ }
