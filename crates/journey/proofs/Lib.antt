@@ -1,3 +1,4 @@
 pub mod Walks
 pub mod Accepted
 pub mod Texts
+pub mod Trips

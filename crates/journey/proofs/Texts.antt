@@ -18,9 +18,10 @@ Stored l at text next after = (next ≡ at + length text) × (after ≡ sets l a
 
 pub and-then : (l : List ℕ) (at : ℕ) (xs : List ℕ) (next : ℕ) (m ys : List ℕ) (last : ℕ) (n : List ℕ)
     → Stored l at xs next m → Stored m next ys last n → Stored l at (xs ++ ys) last n
-and-then l at xs next m ys last n first second =
-    (omega (arith, first .0, second .0, length-append xs ys),
-    second .1 ∙ rw (first .0, first .1) (sets-both l at xs ys))
+and-then l at xs next m ys last n first second = (
+  omega (arith, first .0, second .0, length-append xs ys),
+  second .1 ∙ rw (first .0, first .1) (sets-both l at xs ys),
+)
 
 pub spaced-short : (n : ℕ) → length (spaced (decimal n)) ≤ 11
 spaced-short n = omega (arith, length-append (decimal n) (32 ∷ []), decimal-some n .1)

@@ -1,2 +1,3 @@
 pub mod Hops
 pub mod Listing
+pub mod Trips

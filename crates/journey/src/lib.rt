@@ -5,10 +5,21 @@ ghost use mathlib.Core.Bool.{true};
 ghost use Prim.Native.Nat.{_+_, _≤_};
 ghost use lib.ListN.{length};
 ghost use lib.Seq.{sets};
+ghost use Rattle.plan.specs.Sound.{sound};
+ghost use Rattle.setup.specs.Setups.{wellFormed};
 ghost use Rattle.text.specs.Decimal.{decimal};
+ghost use Rattle.routing.specs.declared.Later.the-variants.{Nothing};
 ghost use Rattle.routing.specs.Interface.{isFeature, addressOf};
+ghost use Rattle.routing.specs.Routing.{answer};
+ghost use Rattle.journey.specs.Hops.{journey};
 ghost use Rattle.journey.specs.Listing.{kindWord, numberIn, headLine, spaced, line, lines, listing};
+ghost use Rattle.journey.specs.Trips.{calleeIn, sentOn, hopped, hopText};
+use making::Maker;
+use plan::Plan;
+use routing::Answer;
 use routing::Callee;
+use routing::Outcome;
+use setup::Setup;
 
 // ---- text in a lent room: each of these says where the next one begins
 
@@ -91,4 +102,99 @@ fn put_line(hop: u32, callee: Callee, left: u32, at: usize, room: &mut [u8]) -> 
     let rest = put_field(address_of(callee), address, room);
     let end = put_number(left, rest, room);
     put_bytes(b"\n", end, room)
+}
+
+// ---- the journey
+
+// What routing answers, with lists of its own.
+fn routed(plan: Plan, s: Setup) -> Answer
+    ensures { λ r. ⌜ r ≡ answer plan s Nothing 32 32 ⌝ }
+{
+    let mut source_list = [0u8; 32];
+    let mut target_list = [0u8; 32];
+    routing::route(plan, s, &mut source_list, &mut target_list)
+}
+
+// The callee box; a refusal, which no journey meets, counts as the error box.
+fn callee_in(outcome: Outcome) -> Callee
+    ensures { λ r. ⌜ r ≡ calleeIn outcome ⌝ }
+{
+    match outcome {
+        Outcome::Routed(c) => c,
+        Outcome::Refused(_) => Callee::Error(0),
+    }
+}
+
+fn is_feature(callee: Callee) -> bool
+    ensures { λ r. ⌜ r ≡ isFeature callee ⌝ }
+{
+    match callee {
+        Callee::Feature(_, _) => true,
+        Callee::Line(_, _) => false,
+        Callee::Trunk(_, _) => false,
+        Callee::Resource(_, _) => false,
+        Callee::Error(_) => false,
+    }
+}
+
+// What a box sends on when it changes nothing; a box that is no feature box sends nothing, and what stands here is not used.
+fn sent_on(plan: Plan, callee: Callee, received: Setup) -> Setup
+    ensures { λ r. ⌜ r ≡ sentOn plan callee received ⌝ }
+{
+    match callee {
+        Callee::Feature(t, a) => {
+            let answer = making::continued_setup(plan, Maker::Feature(t, a), received, 0, b"", 0);
+            answer.setup
+        }
+        Callee::Line(_, _) => received,
+        Callee::Trunk(_, _) => received,
+        Callee::Resource(_, _) => received,
+        Callee::Error(_) => received,
+    }
+}
+
+// A journey on its way: the setup that is routed next, where the next line begins, and whether there is one.
+struct Trip {
+    setup: Setup,
+    at: usize,
+    going: bool,
+}
+
+// One hop, with its line.
+fn one_hop(plan: Plan, trip: Trip, hop: u32, room: &mut [u8]) -> Trip
+    requires { ⌜ trip .at ≤ 10000 ⌝ }
+    ensures { λ r. ⌜ (r ≡ hopped plan trip hop) × (now (room .exit) ≡ sets (now (room .entry)) (trip .at) (hopText plan trip hop)) ⌝ }
+{
+    let setup = trip.setup;
+    if !trip.going {
+        return trip;
+    }
+    let answer = routed(plan, setup);
+    let outcome = answer.outcome;
+    let received = answer.setup;
+    let callee = callee_in(outcome);
+    let next = put_line(hop, callee, answer.left as u32, trip.at, room);
+    Trip {
+        setup: sent_on(plan, callee, received),
+        at: next,
+        going: is_feature(callee),
+    }
+}
+
+// The lines of a journey.
+fn put_hops(plan: Plan, first: Setup, at: usize, room: &mut [u8]) -> usize
+    requires { ⌜ (sound plan ≡ true) × (wellFormed plan first ≡ true) × (at ≤ 100) ⌝ }
+    ensures { λ r. ⌜ (r ≡ at + length (lines 1 (journey plan first))) × (now (room .exit) ≡ sets (now (room .entry)) at (lines 1 (journey plan first))) ⌝ }
+{
+    let mut trip = Trip {
+        setup: first,
+        at,
+        going: true,
+    };
+    let mut hop: u32 = 1;
+    while hop < 66 {
+        trip = one_hop(plan, trip, hop, room);
+        hop += 1;
+    }
+    trip.at
 }

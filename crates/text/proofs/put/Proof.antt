@@ -60,7 +60,7 @@ returns : tie.Need-returns Inv-loop μ-loop
 returns c =
     let i = c .before .loop .inv in
     let end : c .before .loop .i ≡ min (length (c .before .before .before .before .before .before .args .bytes .now)) (length (c .before .loop .room) - c .before .before .before .before .before .before .args .at) =
-        omega (arith, i .0, i .1, c .loop-test .left, c .before .before .at-most .ensures, c .before .before .before .less .ensures) in
+    omega (arith, i .0, i .1, c .loop-test .left, c .before .before .at-most .ensures, c .before .before .before .less .ensures) in
     sym (store-done (c .before .loop .room) (c .before .before .before .before .before .before .args .bytes .now) (c .before .before .before .before .before .before .args .at) (c .before .loop .i) end) ∙ i .2
 
 pub put-spec : {M : Type 1} → statement M
