@@ -2,3 +2,4 @@ pub mod Walks
 pub mod Accepted
 pub mod Texts
 pub mod Trips
+pub mod Desks

@@ -32,3 +32,7 @@ kind-short (Line n a) = omega arith
 kind-short (Trunk n a) = omega arith
 kind-short (Resource n a) = omega arith
 kind-short (Error a) = omega arith
+
+-- from the first place on
+pub from-start : (l text : List ℕ) (next : ℕ) (after : List ℕ) → Stored l 0 text next after → (next ≡ length text) × (after ≡ sets l 0 text)
+from-start l text next after s = (omega (arith, s .0), s .1)

@@ -13,7 +13,10 @@ ghost use Rattle.routing.specs.Interface.{isFeature, addressOf};
 ghost use Rattle.routing.specs.Routing.{answer};
 ghost use Rattle.journey.specs.Hops.{journey};
 ghost use Rattle.journey.specs.Listing.{kindWord, numberIn, headLine, spaced, line, lines, listing};
+ghost use Rattle.making.specs.declared.Outcome.the-variants.{Made};
+ghost use Rattle.journey.specs.Desk.{spaceIn, refusedText, told, deskText};
 ghost use Rattle.journey.specs.Trips.{calleeIn, sentOn, hopped, hopText};
+use embedded::Dials;
 use making::Maker;
 use plan::Plan;
 use routing::Answer;
@@ -197,4 +200,71 @@ fn put_hops(plan: Plan, first: Setup, at: usize, room: &mut [u8]) -> usize
         hop += 1;
     }
     trip.at
+}
+
+// The whole listing, from the first place of a lent room.
+fn put_listing(plan: Plan, first: Setup, room: &mut [u8]) -> usize
+    requires { ⌜ (sound plan ≡ true) × (wellFormed plan first ≡ true) ⌝ }
+    ensures { λ r. ⌜ (r ≡ length (listing (journey plan first))) × (now (room .exit) ≡ sets (now (room .entry)) 0 (listing (journey plan first))) ⌝ }
+{
+    let next = put_bytes(b"hop box number address left\n", 0, room);
+    put_hops(plan, first, next, room)
+}
+
+// ---- the desk
+
+fn put_refused(number: u32, room: &mut [u8]) -> usize
+    ensures { λ r. ⌜ (r ≡ length (refusedText number)) × (now (room .exit) ≡ sets (now (room .entry)) 0 (refusedText number)) ⌝ }
+{
+    let next = put_bytes(b"refused ", 0, room);
+    let end = put_number(number, next, room);
+    put_bytes(b"\n", end, room)
+}
+
+// The listing of a setup that was made, or the refusal.
+fn put_told(plan: Plan, answer: making::Answer, room: &mut [u8]) -> usize
+    requires { ⌜ (answer .outcome ≡ Made → (sound plan ≡ true) × (wellFormed plan (answer .setup) ≡ true)) ⌝ }
+    ensures { λ r. ⌜ (r ≡ length (told plan answer)) × (now (room .exit) ≡ sets (now (room .entry)) 0 (told plan answer)) ⌝ }
+{
+    let outcome = answer.outcome;
+    let first = answer.setup;
+    match outcome {
+        making::Outcome::Made => put_listing(plan, first, room),
+        making::Outcome::Refused(r) => put_refused(r.number() as u32, room),
+    }
+}
+
+// The place of the first space of a line; its length where there is none.
+fn space_in(line: &[u8]) -> usize
+    ensures { λ r. ⌜ r ≡ spaceIn (now (line .entry)) ⌝ }
+{
+    let mut i: usize = 0;
+    while i < line.len() {
+        if line[i] == 32 {
+            return i;
+        }
+        i += 1;
+    }
+    i
+}
+
+// What the desk answers to any line under any plan, stored from the first place of a lent room as far as it fits; and how long it is.
+pub fn desk(plan: Plan, line: &[u8], room: &mut [u8]) -> usize
+    ensures { λ r. ⌜ (r ≡ length (deskText plan (now (line .entry)))) × (now (room .exit) ≡ sets (now (room .entry)) 0 (deskText plan (now (line .entry)))) ⌝ }
+{
+    let space = space_in(line);
+    if line.len() <= space {
+        return put_refused(3, room);
+    }
+    match embedded::written(&line[..space]) {
+        Dials::Nobody => put_refused(3, room),
+        Dials::Address(a) => {
+            let string = &line[space + 1..];
+            put_told(
+                plan,
+                making::new_setup(plan, Maker::Line(a), string, 0),
+                room,
+            )
+        }
+    }
 }
