@@ -96,7 +96,7 @@ hop-place p t k =
     (λ (g : t .going ≡ false). let same : t .at ≡ t .at + 0 = omega arith in rw g same)
     (yes-or-no (t .going))
 
-line-short : (k : ℕ) (c : Callee) (n : ℕ) → length (line k c n) ≤ 60
+pub line-short : (k : ℕ) (c : Callee) (n : ℕ) → length (line k c n) ≤ 60
 unfolding line
 line-short k c n =
     let a = spaced (decimal k) in
