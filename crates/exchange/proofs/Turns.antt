@@ -1,0 +1,35 @@
+-- That what the code does with a record taken from a row is the row's own turn (the call's `Row.turn`). Assumes nothing.
+use Prim.Native.Nat.{ℕ}
+use mathlib.Core.Path.{_≡_, refl, ap}
+use mathlib.Core.Bool.{Bool, true, false, cond}
+use mathlib.Core.List.{List}
+use lib.ListN.{length, set}
+use lib.Seq.{set-getD}
+use lib.Dec.{ltb}
+use Rattle.refusal.specs.declared.Refusal.{Refusal}
+use Rattle.refusal.specs.declared.Refusal.the-variants.{NoSuchCall, RowTooLong}
+use Rattle.call.specs.declared.Call.{Call}
+use Rattle.call.specs.declared.Command.{Command}
+use Rattle.call.specs.declared.Answer.the-variants.{Refused}
+use Rattle.call.specs.declared.Step.{Step}
+use Rattle.call.specs.Protocol.{step, cleared, refusing}
+use Rattle.call.specs.Row.{Turn, command, recordAt, named, refuses, put, turn}
+use Rattle.exchange.specs.Lent.{answering, takenAt, commanded}
+
+-- the answer of a step for the record r, and the row with the record after it
+abbrev pub stepping : List Call → ℕ → Step → Turn
+stepping row r s = answering (s .answer) (set row r (s .call))
+
+-- a refused step stores what was there
+same : (row : List Call) (r : ℕ) (x : Refusal) → stepping row r (refusing (recordAt row r) x) ≡ refuses x row
+same row r x = ap (answering (Refused x)) (set-getD row r cleared)
+
+by-tests : (row : List Call) (r : ℕ) (long fits : Bool) (s : Step)
+    → stepping row r (cond long (refusing (recordAt row r) RowTooLong) (cond fits s (refusing (recordAt row r) NoSuchCall)))
+    ≡ cond long (refuses RowTooLong row) (cond fits (put row r s) (refuses NoSuchCall row))
+by-tests row r true fits s = same row r RowTooLong
+by-tests row r false true s = refl
+by-tests row r false false s = same row r NoSuchCall
+
+pub commanded-is : (row : List Call) (r u : ℕ) (k : Command) → stepping row r (commanded (length row) (takenAt row r) u k) ≡ turn row (command r u k)
+commanded-is row r u k = by-tests row r (ltb 1024 (length row)) (named row r u) (step (recordAt row r) k)
