@@ -48,7 +48,7 @@ use denote.Struct.Laws as SL
 use denote.Enum.Declared as ED
 use denote.Enum.Enum.{Few, Plainss}
 use denote.Enum.Laws as EL
-use contract.Lifetimes.{Lfts, Shares, AllOutlive, Outlives}
+use contract.Lifetimes.{Lfts, Within, lftAt, Shares, AllOutlive, Outlives}
 use denote.Signature.{Signature, Slot, plain, mutRef, mutSlice, shrRef, shrSlice, typeAt, typesAt}
 use denote.Triple.Entry.{Res, alive, onEntry}
 use denote.Triple.Statement.{Contract, Triple}
@@ -362,7 +362,7 @@ env (local τ h ∷ ls) (b ∷ bs) = (τ, b) ∷ env ls bs
 
 -- ---- a function's parameters, and the way from a walk to the statement
 --     Param n          a parameter of a signature of n lifetimes: its place, what is had of it at exit with its law, and how its machine values are spelled
---     of-plain         plain data.        of-mut-ref, of-shr-ref, of-mut, of-shr, of-gave      a `&mut T`, a `&T`, a `&mut [T]`, a `&[T]`, and a `&mut [T]` that the body gives up for good, each at the first lifetime
+--     of-plain         plain data.        mut-ref-at, shr-ref-at, mut-at, shr-at, gave-at      a `&mut T`, a `&T`, a `&mut [T]`, a `&[T]`, and a `&mut [T]` that the body gives up for good, each at a lifetime.        of-mut-ref, .. of-gave      the same where there is one lifetime
 --     stays, proves    what is had of all of them at exit; and the function's MIR meets its contract, from a walk at each choice of lifetimes, shares and arguments
 pub record Param (n : ℕ) : Type 2 where
   pub slot : Slot n
@@ -376,20 +376,38 @@ pub record Param (n : ℕ) : Type 2 where
 abbrev pub of-plain : {n : ℕ} (R : RattleType) (k : Kind R) → ((x : R .Denot) (f : Last (R .exit yes) x) → left (R .exit yes) x f ≡ ftrue) → Param n
 of-plain {n} R k s = record { slot = plain (λ _. R); kept = yes; stay = stay-none (λ _. R) yes; goes = λ 𝓤 H A W. goes-none 𝓤 H A W n (λ _. R) yes (λ κs. s); spell = λ κs x. k .val x ∷ []; tell = λ κs. k .tells }
 
-abbrev pub of-mut-ref : (R : RattleType) → Param 1
-of-mut-ref R = record { slot = mutRef 0 tt (λ _. R); kept = yes; stay = stay-ref (0 ∷ []) tt (plain (λ _. R)); goes = λ 𝓤 H A W. goes-ref 𝓤 H A W 1 0 tt (plain (λ _. R)); spell = λ κs. ptr-vals; tell = λ κs. mut-tells (named 0) (κs .0) R }
+-- at the j-th lifetime of n
+module _ {n : ℕ} where
+  abbrev pub mut-ref-at : (j : ℕ) (ok : Within n j) (R : RattleType) → Param n
+  mut-ref-at j ok R = record { slot = mutRef j ok (λ _. R); kept = yes; stay = stay-ref (j ∷ []) ok (plain (λ _. R)); goes = λ 𝓤 H A W. goes-ref 𝓤 H A W n j ok (plain (λ _. R)); spell = λ κs. ptr-vals; tell = λ κs. mut-tells (named j) (lftAt n j ok κs) R }
 
-abbrev pub of-shr-ref : (R : RattleType) → Param 1
-of-shr-ref R = record { slot = shrRef 0 tt (λ _. R); kept = yes; stay = stay-none-ref (0 ∷ []) tt (plain (λ _. R)) yes; goes = λ 𝓤 H A W. goes-none-ref 𝓤 H A W 1 (0 ∷ []) tt (plain (λ _. R)) yes; spell = λ κs. ptr-vals; tell = λ κs. shr-tells (named 0) (κs .0) R }
+  abbrev pub shr-ref-at : (j : ℕ) (ok : Within n j) (R : RattleType) → Param n
+  shr-ref-at j ok R = record { slot = shrRef j ok (λ _. R); kept = yes; stay = stay-none-ref (j ∷ []) ok (plain (λ _. R)) yes; goes = λ 𝓤 H A W. goes-none-ref 𝓤 H A W n (j ∷ []) ok (plain (λ _. R)) yes; spell = λ κs. ptr-vals; tell = λ κs. shr-tells (named j) (lftAt n j ok κs) R }
 
-abbrev pub of-mut : (R : RattleType) → Param 1
-of-mut R = record { slot = mutSlice 0 tt (λ _. R); kept = yes; stay = stay-slice (0 ∷ []) tt (plain (λ _. R)); goes = λ 𝓤 H A W. goes-slice 𝓤 H A W 1 0 tt (plain (λ _. R)); spell = λ κs. slice-vals; tell = λ κs. mut-slice-tells (named 0) (κs .0) R }
+  abbrev pub mut-at : (j : ℕ) (ok : Within n j) (R : RattleType) → Param n
+  mut-at j ok R = record { slot = mutSlice j ok (λ _. R); kept = yes; stay = stay-slice (j ∷ []) ok (plain (λ _. R)); goes = λ 𝓤 H A W. goes-slice 𝓤 H A W n j ok (plain (λ _. R)); spell = λ κs. slice-vals; tell = λ κs. mut-slice-tells (named j) (lftAt n j ok κs) R }
 
-abbrev pub of-gave : (R : RattleType) → Param 1
-of-gave R = record { slot = mutSlice 0 tt (λ _. R); kept = yes; stay = gave-slice (0 ∷ []) tt (plain (λ _. R)); goes = λ 𝓤 H A W. goes-gave-slice 𝓤 H A W 1 0 tt (plain (λ _. R)); spell = λ κs. slice-vals; tell = λ κs. mut-slice-tells (named 0) (κs .0) R }
+  abbrev pub gave-at : (j : ℕ) (ok : Within n j) (R : RattleType) → Param n
+  gave-at j ok R = record { slot = mutSlice j ok (λ _. R); kept = yes; stay = gave-slice (j ∷ []) ok (plain (λ _. R)); goes = λ 𝓤 H A W. goes-gave-slice 𝓤 H A W n j ok (plain (λ _. R)); spell = λ κs. slice-vals; tell = λ κs. mut-slice-tells (named j) (lftAt n j ok κs) R }
 
-abbrev pub of-shr : (R : RattleType) → Param 1
-of-shr R = record { slot = shrSlice 0 tt (λ _. R); kept = yes; stay = stay-none-slice (0 ∷ []) tt (plain (λ _. R)) yes; goes = λ 𝓤 H A W. goes-none-slice 𝓤 H A W 1 (0 ∷ []) tt (plain (λ _. R)) yes; spell = λ κs. slice-vals; tell = λ κs. shr-slice-tells (named 0) (κs .0) R }
+  abbrev pub shr-at : (j : ℕ) (ok : Within n j) (R : RattleType) → Param n
+  shr-at j ok R = record { slot = shrSlice j ok (λ _. R); kept = yes; stay = stay-none-slice (j ∷ []) ok (plain (λ _. R)) yes; goes = λ 𝓤 H A W. goes-none-slice 𝓤 H A W n (j ∷ []) ok (plain (λ _. R)) yes; spell = λ κs. slice-vals; tell = λ κs. shr-slice-tells (named j) (lftAt n j ok κs) R }
+
+-- at the only one
+abbrev pub of-mut-ref : RattleType → Param 1
+of-mut-ref = mut-ref-at 0 tt
+
+abbrev pub of-shr-ref : RattleType → Param 1
+of-shr-ref = shr-ref-at 0 tt
+
+abbrev pub of-mut : RattleType → Param 1
+of-mut = mut-at 0 tt
+
+abbrev pub of-gave : RattleType → Param 1
+of-gave = gave-at 0 tt
+
+abbrev pub of-shr : RattleType → Param 1
+of-shr = shr-at 0 tt
 
 module _ {n : ℕ} where
   abbrev pub slots : List (Param n) → List (Slot n)
