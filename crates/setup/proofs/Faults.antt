@@ -15,9 +15,12 @@ use Rattle.typeset.proofs.Below.{every-at, every-of, every-ext}
 use Rattle.plan.specs.declared.Plan.{Plan}
 use Rattle.zone.specs.Answer.{zoneAt}
 use Rattle.setup.specs.declared.Dialled.{Dialled}
+use Rattle.zone.specs.declared.Zone.{Zone}
+use Rattle.setup.specs.declared.Route.{Route}
+use Rattle.setup.specs.declared.Route.the-variants.{Whole, Suffix, Listed}
 use Rattle.setup.specs.declared.Setup.{Setup}
 use Rattle.setup.specs.Dialling.{symbol, legalString, padded, dialled, stringOf, legalDialled}
-use Rattle.setup.specs.Setups.{routingAddress, inRange, listFits, routeFits, placingFits, outerFits, fault, faultless, wellFormed}
+use Rattle.setup.specs.Setups.{routingAddress, inRange, listFits, routeFits, placingFits, outerFits, faultIn, zoneAsked, fault, faultless, wellFormed}
 
 -- ---- strings
 
@@ -49,11 +52,11 @@ pub record Kept (p : Plan) (s : Setup) : Type 0 where
   pub outer : outerFits (s .region) (s .outer) ≡ true
 
 pub well-formed-of : (p : Plan) (s : Setup) → Kept p s → wellFormed p s ≡ true
-unfolding wellFormed fault
+unfolding wellFormed fault faultIn
 well-formed-of p s k = rw (k .in-range, k .routed, k .route, k .placing, k .outer)
 
 pub well-formed-kept : (p : Plan) (s : Setup) → wellFormed p s ≡ true → Kept p s
-unfolding wellFormed fault
+unfolding wellFormed fault faultIn
 well-formed-kept p s e =
     ⊎-elim (λ (a : inRange s ≡ true).
     ⊎-elim (λ (b : eqb (routingAddress s) 0 ≡ true). absurd (false≢true (rw (a, b) at e))) (λ (b : eqb (routingAddress s) 0 ≡ false).
@@ -69,3 +72,22 @@ well-formed-kept p s e =
     (yes-or-no (eqb (routingAddress s) 0)))
     (λ (a : inRange s ≡ false). absurd (false≢true (rw a at e)))
     (yes-or-no (inRange s))
+
+-- a caller that has the zone of the routing address needs it only where there is a routing address
+pub fault-in : (p : Plan) (s : Setup) (zone : List ℕ) → (eqb (routingAddress s) 0 ≡ false → zone ≡ zoneAt p (s .region) (routingAddress s))
+    → faultIn zone (p .types .reversible) s ≡ fault p s
+unfolding fault faultIn
+fault-in p s zone same =
+    ⊎-elim (λ (b : eqb (routingAddress s) 0 ≡ true). rw b)
+    (λ (b : eqb (routingAddress s) 0 ≡ false). rw (same b))
+    (yes-or-no (eqb (routingAddress s) 0))
+
+-- a route that is no list asks for no zone
+asked-fits : (r : Route) (zone : List ℕ) (l : Zone) → routeFits r (listFits (zoneAsked r zone) l) ≡ routeFits r (listFits zone l)
+asked-fits Whole zone l = refl
+asked-fits Suffix zone l = refl
+asked-fits Listed zone l = refl
+
+pub asked-enough : (zone : List ℕ) (reversible : ℕ) (s : Setup) → faultIn (zoneAsked (s .route) zone) reversible s ≡ faultIn zone reversible s
+unfolding faultIn
+asked-enough zone reversible s = rw (asked-fits (s .route) zone (s .list))

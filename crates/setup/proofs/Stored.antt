@@ -42,20 +42,24 @@ pub string-of-dialled : (l : List ℕ) → stringOf (dialled l) ≡ l
 unfolding stringOf dialled padded
 string-of-dialled l = take-at l (replicate (32 - length l) 0) (length l) refl
 
--- the first n of 32 places, cut at 32 first: the same
-pub cut-32 : (n : ℕ) (l : List ℕ) → length l ≡ 32 → take 32 (take (min n 32) l) ≡ take n l
-cut-32 n l long =
+-- the first n of 32 places, with n cut at 32 first: the same
+pub cut : (n : ℕ) (l : List ℕ) → length l ≡ 32 → take (min n 32) l ≡ take n l
+cut n l long =
     ⊎-elim
     (λ (h : n < 32).
     let e : min n 32 ≡ n = omega arith in
-    let short : length (take n l) ≤ 32 = simp length-take (omega arith) in
-    rw e (take-all 32 (take n l) short))
+    rw e)
     (λ (h : 32 ≤ n).
     let e : min n 32 ≡ 32 = omega arith in
     let whole : length l ≤ 32 = omega arith in
     let long-enough : length l ≤ n = omega arith in
-    rw (e, take-all 32 l whole, take-all 32 l whole, take-all n l long-enough))
+    rw (e, take-all 32 l whole, take-all n l long-enough))
     (split n 32)
+
+pub cut-32 : (n : ℕ) (l : List ℕ) → length l ≡ 32 → take 32 (take (min n 32) l) ≡ take n l
+cut-32 n l long =
+    let short : length (take (min n 32) l) ≤ 32 = simp length-take (omega arith) in
+    take-all 32 (take (min n 32) l) short ∙ cut n l long
 
 pub cut-length : (n : ℕ) (l : List ℕ) → length l ≡ 32 → length (take n l) ≡ min n 32
 cut-length n l long = simp (length-take, long)

@@ -1,7 +1,7 @@
 -- Setups (manual 5.2), and which fault one has. What stands past the length of a string or of a list does not count. Assumes nothing.
 use Prim.Native.Nat.{ℕ, _+_, _-_}
 use mathlib.Core.Bool.{Bool, true, false, not, _&&_, cond}
-use mathlib.Core.List.{List}
+use mathlib.Core.List.{List, []}
 use lib.Dec.{eqb, leb}
 use lib.ListN.{length, getD, take}
 use Rattle.typeset.specs.Sets.{has, every}
@@ -10,6 +10,7 @@ use Rattle.plan.specs.declared.Region.the-variants.{Source, Target}
 use Rattle.plan.specs.declared.Plan.{Plan}
 use Rattle.plan.specs.Parts.{legal}
 use Rattle.zone.specs.declared.Zone.{Zone}
+use Rattle.zone.specs.Order.{held}
 use Rattle.zone.specs.Answer.{zoneAt}
 use Rattle.setup.specs.declared.Route.{Route}
 use Rattle.setup.specs.declared.Route.the-variants.{Whole, Suffix, Listed}
@@ -20,7 +21,7 @@ use Rattle.setup.specs.declared.Outer.the-variants.{NoOuter, OuterAt}
 use Rattle.setup.specs.declared.Setup.{Setup}
 use Rattle.setup.specs.declared.Fault.{Fault}
 use Rattle.setup.specs.declared.Fault.the-variants.{WellFormed, BadAddressOrString, NoRoutingAddress, NoEndPart, WrongPlacing, WrongOuter}
-use Rattle.setup.specs.Dialling.{legalDialled}
+use Rattle.setup.specs.Dialling.{dialled, legalDialled}
 
 -- of a source and a target, the one that a region routes by: the source in the source region, the target in the target region; and the other one
 abbrev pub routing : Region → ℕ → ℕ → ℕ
@@ -89,14 +90,23 @@ abbrev pub outerFits : Region → Outer → Bool
 outerFits Source outer = outerGiven outer
 outerFits Target outer = outerAbsent outer
 
--- the first of these that a setup does not keep
-unfoldable pub fault : Plan → Setup → Fault
-fault p s =
+-- the first of these that a setup does not keep, where `zone` is the zone of its routing address
+unfoldable pub faultIn : List ℕ → ℕ → Setup → Fault
+faultIn zone reversible s =
     cond (not (inRange s)) BadAddressOrString
     (cond (eqb (routingAddress s) 0) NoRoutingAddress
-    (cond (not (routeFits (s .route) (listFits (zoneAt p (s .region) (routingAddress s)) (s .list)))) NoEndPart
-    (cond (not (placingFits (p .types .reversible) (s .route) (s .placing))) WrongPlacing
+    (cond (not (routeFits (s .route) (listFits zone (s .list)))) NoEndPart
+    (cond (not (placingFits reversible (s .route) (s .placing))) WrongPlacing
     (cond (not (outerFits (s .region) (s .outer))) WrongOuter WellFormed))))
+
+-- the zone that a route is held against: only a list needs one
+abbrev pub zoneAsked : Route → List ℕ → List ℕ
+zoneAsked Whole zone = []
+zoneAsked Suffix zone = []
+zoneAsked Listed zone = zone
+
+unfoldable pub fault : Plan → Setup → Fault
+fault p s = faultIn (zoneAt p (s .region) (routingAddress s)) (p .types .reversible) s
 
 abbrev pub faultless : Fault → Bool
 faultless WellFormed = true
@@ -108,3 +118,17 @@ faultless WrongOuter = false
 
 unfoldable pub wellFormed : Plan → Setup → Bool
 wellFormed p s = faultless (fault p s)
+
+-- ---- the blank setup, which stands beside a refusal: nothing in it
+
+unfoldable pub blank : Setup
+blank = record {
+  region = Source;
+  source = 0;
+  dialled = dialled [];
+  target = 0;
+  route = Whole;
+  list = held [];
+  placing = NoPlacing;
+  outer = NoOuter;
+}

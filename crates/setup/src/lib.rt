@@ -1,11 +1,12 @@
 // Setups: what a box sends to place a call, and which fault one has.
 ghost use mathlib.Core.Path.{_≡_};
 ghost use Prim.Native.Nat.{min};
-ghost use lib.ListN.{take};
+ghost use mathlib.Core.List.{[]};
+ghost use lib.ListN.{length, take};
 ghost use Rattle.zone.specs.Order.{held};
 ghost use Rattle.zone.specs.Answer.{zoneAt};
 ghost use Rattle.setup.specs.Dialling.{symbol, legalString, padded, dialled, stringOf, legalDialled};
-ghost use Rattle.setup.specs.Setups.{routing, other, routingAddress, listOf, outerLegal, inRange, listFits, routeFits, unplaced, placedBy, placingFits, outerAbsent, outerGiven, outerFits, fault, faultless, wellFormed};
+ghost use Rattle.setup.specs.Setups.{routing, other, routingAddress, listOf, outerLegal, inRange, listFits, routeFits, unplaced, placedBy, placingFits, outerAbsent, outerGiven, outerFits, faultIn, zoneAsked, fault, faultless, wellFormed, blank};
 use plan::Plan;
 use plan::Region;
 use zone::Zone;
@@ -145,15 +146,63 @@ pub fn kept_string(d: Dialled) -> Dialled
     dial(&symbols[..end])
 }
 
+// A list as a setup holds it, of any bytes: the first 32.
+pub fn listed(s: &[u8]) -> Zone
+    ensures { λ r. ⌜ r ≡ held (take 32 (now (s .entry))) ⌝ }
+{
+    Zone {
+        types: filled(s),
+        len: at_most_32(s.len()) as u8,
+    }
+}
+
 // A list as it was, with 0 past its length.
 pub fn kept_list(z: Zone) -> Zone
     ensures { λ r. ⌜ r ≡ held (listOf z) ⌝ }
 {
     let types = z.types;
     let end = at_most_32(z.len as usize);
+    listed(&types[..end])
+}
+
+// How many types a list holds: its length, or 32 where that is more.
+pub fn list_length(z: Zone) -> usize
+    ensures { λ r. ⌜ r ≡ length (listOf z) ⌝ }
+{
+    at_most_32(z.len as usize)
+}
+
+fn empty_list() -> Zone
+    ensures { λ r. ⌜ r ≡ held [] ⌝ }
+{
     Zone {
-        types: filled(&types[..end]),
-        len: end as u8,
+        types: [0u8; 32],
+        len: 0,
+    }
+}
+
+fn empty_string() -> Dialled
+    ensures { λ r. ⌜ r ≡ dialled [] ⌝ }
+{
+    Dialled {
+        symbols: [0u8; 32],
+        len: 0,
+    }
+}
+
+// The setup that stands beside a refusal.
+pub fn blank_setup() -> Setup
+    ensures { λ r. ⌜ r ≡ blank ⌝ }
+{
+    Setup {
+        region: Region::Source,
+        source: 0,
+        dialled: empty_string(),
+        target: 0,
+        route: Route::Whole,
+        list: empty_list(),
+        placing: Placing::NoPlacing,
+        outer: Outer::NoOuter,
     }
 }
 
@@ -236,14 +285,14 @@ fn list_fits(zone: Zone, list: Zone) -> bool
     true
 }
 
-// Whether the route is no list, or its list is an end part of the routing address's zone.
-fn route_fits(plan: Plan, region: Region, address: u32, route: Route, list: Zone) -> bool
-    ensures { λ r. ⌜ r ≡ routeFits route (listFits (zoneAt plan region address) list) ⌝ }
+// Whether the route is no list, or its list is an end part of the zone.
+fn route_fits(zone: Zone, route: Route, list: Zone) -> bool
+    ensures { λ r. ⌜ r ≡ routeFits route (listFits (listOf zone) list) ⌝ }
 {
     match route {
         Route::Whole => true,
         Route::Suffix => true,
-        Route::Listed => list_fits(zone::zone_at(plan, region, address), list),
+        Route::Listed => list_fits(zone, list),
     }
 }
 
@@ -302,33 +351,53 @@ fn outer_fits(region: Region, outer: Outer) -> bool
     }
 }
 
-// The first fault of a setup, for a caller that has tested the plan; total in any plan, as zone_at is.
-pub fn fault_of(plan: Plan, s: Setup) -> Fault
-    ensures { λ r. ⌜ r ≡ fault plan s ⌝ }
+// The first fault of a setup, for a caller that has the zone of its routing address; total for any zone.
+pub fn fault_in(zone: Zone, reversible: u32, s: Setup) -> Fault
+    ensures { λ r. ⌜ r ≡ faultIn (listOf zone) reversible s ⌝ }
 {
     let region = s.region;
     let route = s.route;
     let list = s.list;
     let placing = s.placing;
     let outer = s.outer;
-    let types = plan.types;
     if !in_range(s) {
         return Fault::BadAddressOrString;
     }
-    let address = routing_address(s);
-    if address == 0 {
+    if routing_address(s) == 0 {
         return Fault::NoRoutingAddress;
     }
-    if !route_fits(plan, region, address, route, list) {
+    if !route_fits(zone, route, list) {
         return Fault::NoEndPart;
     }
-    if !placing_fits(types.reversible, route, placing) {
+    if !placing_fits(reversible, route, placing) {
         return Fault::WrongPlacing;
     }
     if !outer_fits(region, outer) {
         return Fault::WrongOuter;
     }
     Fault::WellFormed
+}
+
+// The zone that a route's list is held against; only a list needs one.
+fn zone_asked(plan: Plan, region: Region, address: u32, route: Route) -> Zone
+    ensures { λ r. ⌜ r ≡ held (zoneAsked route (zoneAt plan region address)) ⌝ }
+{
+    match route {
+        Route::Whole => empty_list(),
+        Route::Suffix => empty_list(),
+        Route::Listed => zone::zone_at(plan, region, address),
+    }
+}
+
+// The first fault of a setup, for a caller that has tested the plan; total in any plan, as zone_at is.
+pub fn fault_of(plan: Plan, s: Setup) -> Fault
+    ensures { λ r. ⌜ r ≡ fault plan s ⌝ }
+{
+    let region = s.region;
+    let route = s.route;
+    let types = plan.types;
+    let zone = zone_asked(plan, region, routing_address(s), route);
+    fault_in(zone, types.reversible, s)
 }
 
 fn faultless(f: Fault) -> bool
@@ -342,6 +411,13 @@ fn faultless(f: Fault) -> bool
         Fault::WrongPlacing => false,
         Fault::WrongOuter => false,
     }
+}
+
+// Whether a setup is well formed, for a caller that has the zone of its routing address; total for any zone.
+pub fn well_formed_in(zone: Zone, reversible: u32, s: Setup) -> bool
+    ensures { λ r. ⌜ r ≡ faultless (faultIn (listOf zone) reversible s) ⌝ }
+{
+    faultless(fault_in(zone, reversible, s))
 }
 
 // Whether a setup is well formed, for a caller that has tested the plan; total in any plan.

@@ -1,86 +1,31 @@
--- `setup::fault_of` meets its contract: the faults one by one. Assumes nothing.
-use Rattle.typeset.proofs.Bools.{passed, failed}
-use mathlib.Core.Path.{sym, _∙_}
-use borrow.Author.Tests.{eq-eqb, ne-eqb}
-use Rattle.setup.specs.Setups.{fault}
+-- `setup::fault_of` meets its contract: a zone is built only for a list. Assumes nothing.
+use mathlib.Core.Path.{_≡_, sym, ap, _∙_}
+use mathlib.Core.List.{List}
+use Prim.Native.Nat.{ℕ}
+use Rattle.zone.specs.Answer.{zoneAt}
+use Rattle.setup.specs.Setups.{routingAddress, listOf, faultIn, fault, zoneAsked}
+use Rattle.setup.proofs.Faults.{asked-enough}
+use Rattle.zone.proofs.Held.{held-list}
 use borrow.Author.Needs.{needs}
 use Rattle.setup.proofs.fault_of.Statement.{statement}
 use Rattle.setup.proofs.fault_of.Tie as tie
 
-in-range-requires : tie.Need-in-range-requires
-in-range-requires c κs = search needs
-
-returns : tie.Need-returns
-unfolding fault
-returns c = rw (failed (c .before .in-range .ensures) (c .if1 .taken))
-
 routing-address-requires : tie.Need-routing-address-requires
 routing-address-requires c κs = search needs
 
-returns-2 : tie.Need-returns-2
-unfolding fault
-returns-2 c = rw (passed (c .before .before .before .in-range .ensures) (c .before .before .if1 .left), eq-eqb _ 0 (sym (c .before .routing-address .ensures) ∙ c .if2 .taken))
+zone-asked-requires : tie.Need-zone-asked-requires
+zone-asked-requires c κs = search needs
 
-route-fits-requires : tie.Need-route-fits-requires
-route-fits-requires c κs = search needs
+fault-in-requires : tie.Need-fault-in-requires
+fault-in-requires c κs = search needs
 
-returns-3 : tie.Need-returns-3
-unfolding fault
-returns-3 c = rw (passed (c .before .before .before .before .before .in-range .ensures) (c .before .before .before .before .if1 .left), ne-eqb _ 0 (λ z. c .before .before .if2 .left (c .before .before .before .routing-address .ensures ∙ z)), ← c .before .before .before .routing-address .ensures, failed (c .before .route-fits .ensures) (c .if3 .taken))
-
-placing-fits-requires : tie.Need-placing-fits-requires
-placing-fits-requires c κs = search needs
-
-returns-4 : tie.Need-returns-4
-unfolding fault
-returns-4 c =
-    rw (
-      passed (c .before .before .before .before .before .before .before .in-range .ensures) (c .before .before .before .before .before .before .if1 .left),
-      ne-eqb _ 0 (λ z. c .before .before .before .before .if2 .left (c .before .before .before .before .before .routing-address .ensures ∙ z)),
-      ← c .before .before .before .before .before .routing-address .ensures,
-      passed (c .before .before .before .route-fits .ensures) (c .before .before .if3 .left),
-      failed (c .before .placing-fits .ensures) (c .if4 .taken),
-    )
-
-outer-fits-requires : tie.Need-outer-fits-requires
-outer-fits-requires c κs = search needs
-
-returns-5 : tie.Need-returns-5
-unfolding fault
-returns-5 c =
-    rw (
-      passed (c .before .before .before .before .before .before .before .before .before .in-range .ensures) (c .before .before .before .before .before .before .before .before .if1 .left),
-      ne-eqb _ 0 (λ z. c .before .before .before .before .before .before .if2 .left (c .before .before .before .before .before .before .before .routing-address .ensures ∙ z)),
-      ← c .before .before .before .before .before .before .before .routing-address .ensures,
-      passed (c .before .before .before .before .before .route-fits .ensures) (c .before .before .before .before .if3 .left),
-      passed (c .before .before .before .placing-fits .ensures) (c .before .before .if4 .left),
-      failed (c .before .outer-fits .ensures) (c .if5 .taken),
-    )
-
-returns-6 : tie.Need-returns-6
-unfolding fault
-returns-6 c =
-    rw (
-      passed (c .before .before .before .before .before .before .before .before .before .in-range .ensures) (c .before .before .before .before .before .before .before .before .if1 .left),
-      ne-eqb _ 0 (λ z. c .before .before .before .before .before .before .if2 .left (c .before .before .before .before .before .before .before .routing-address .ensures ∙ z)),
-      ← c .before .before .before .before .before .before .before .routing-address .ensures,
-      passed (c .before .before .before .before .before .route-fits .ensures) (c .before .before .before .before .if3 .left),
-      passed (c .before .before .before .placing-fits .ensures) (c .before .before .if4 .left),
-      passed (c .before .outer-fits .ensures) (c .if5 .left),
-    )
+returns : tie.Need-returns
+unfolding fault listOf
+returns c =
+    let a = c .before .before .before .before .args in
+    let zone : listOf (c .before .zone-asked .result) ≡ zoneAsked (a .s .route) (zoneAt (a .plan) (a .s .region) (routingAddress (a .s))) = rw (c .before .zone-asked .ensures, c .before .before .routing-address .ensures) (held-list (zoneAsked (a .s .route) (zoneAt (a .plan) (a .s .region) (routingAddress (a .s))))) in
+    c .fault-in .ensures ∙ ap (λ (z : List ℕ). faultIn z (a .plan .types .reversible) (a .s)) zone ∙ asked-enough (zoneAt (a .plan) (a .s .region) (routingAddress (a .s))) (a .plan .types .reversible) (a .s)
 
 pub fault-of-spec : {M : Type 1} → statement M
 fault-of-spec =
-    tie.close
-    (tie.spec
-    in-range-requires
-    returns
-    routing-address-requires
-    returns-2
-    route-fits-requires
-    returns-3
-    placing-fits-requires
-    returns-4
-    outer-fits-requires
-    returns-5
-    returns-6)
+    tie.close (tie.spec routing-address-requires zone-asked-requires fault-in-requires returns)

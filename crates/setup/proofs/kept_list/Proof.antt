@@ -3,9 +3,8 @@ use mathlib.Core.Path.{_≡_, sym, ap, _∙_}
 use native.Mathlib.Omega.{arith}
 use lib.ListN.{length, take, length-take}
 use Rattle.zone.specs.Order.{held}
-use Rattle.setup.specs.Dialling.{padded}
 use Rattle.setup.specs.Setups.{listOf}
-use Rattle.setup.proofs.Stored.{cut-32, cut-length}
+use Rattle.setup.proofs.Stored.{cut-32}
 use borrow.Author.Needs.{needs}
 use Rattle.setup.proofs.kept_list.Statement.{statement}
 use Rattle.setup.proofs.kept_list.Tie as tie
@@ -21,26 +20,21 @@ array-share-prefix-types c =
     let long : length (c .before .before .before .args .z .types) ≡ 32 = search needs in
     omega (arith, c .at-most-32 .ensures)
 
-slice-aggregate-filled : tie.Need-slice-aggregate-filled
-slice-aggregate-filled c =
+slice-aggregate-listed : tie.Need-slice-aggregate-listed
+slice-aggregate-listed c =
     let long : length (c .before .before .before .before .args .z .types) ≡ 32 = search needs in
     simp length-take (omega (arith, c .before .at-most-32 .ensures))
 
-filled-requires : tie.Need-filled-requires
-filled-requires c κs = search needs
-
-cast-t8 : tie.Need-cast-t8
-cast-t8 c = search needs
+listed-requires : tie.Need-listed-requires
+listed-requires c κs = search needs
 
 returns : tie.Need-returns
-unfolding listOf held padded
+unfolding listOf
 returns c =
     let z = c .before .before .before .before .before .args .z in
     let long : length (z .types) ≡ 32 = search needs in
-    let end = c .before .before .at-most-32 .ensures in
-    let cut : take 32 (take (c .before .before .at-most-32 .result) (z .types)) ≡ take (z .len) (z .types) = rw end (cut-32 (z .len) (z .types) long) in
-    let same = c .filled .ensures ∙ ap padded cut in
-    λ i. record { types = same i; len = (end ∙ sym (cut-length (z .len) (z .types) long)) i }
+    c .listed .ensures
+    ∙ ap held (rw (c .before .before .at-most-32 .ensures) (cut-32 (z .len) (z .types) long))
 
 pub kept-list-spec : {M : Type 1} → statement M
 kept-list-spec =
@@ -49,7 +43,6 @@ kept-list-spec =
     cast-at-most-32
     at-most-32-requires
     array-share-prefix-types
-    slice-aggregate-filled
-    filled-requires
-    cast-t8
+    slice-aggregate-listed
+    listed-requires
     returns)

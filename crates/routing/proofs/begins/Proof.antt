@@ -1,0 +1,61 @@
+-- `routing::begins` meets its contract. Assumes nothing.
+use mathlib.Core.Path.{_≡_, refl, sym, ap, _∙_}
+use Prim.Native.Nat.{_-_}
+use lib.ListN.{length}
+use Rattle.setup.specs.declared.Route.{Route}
+use Rattle.setup.specs.Setups.{listOf}
+use Rattle.routing.specs.Places.{begins}
+use borrow.Author.Needs.{needs}
+use Rattle.routing.proofs.begins.Statement.{statement}
+use Rattle.routing.proofs.begins.Tie as tie
+
+enum-told : tie.Need-enum-told
+enum-told c = search needs
+
+enum-told-2 : tie.Need-enum-told-2
+enum-told-2 c = search needs
+
+suffix-begins-requires : tie.Need-suffix-begins-requires
+suffix-begins-requires c κs = search needs
+
+enum-told-3 : tie.Need-enum-told-3
+enum-told-3 c = search needs
+
+list-length-requires : tie.Need-list-length-requires
+list-length-requires c κs = search needs
+
+list-length-requires-2 : tie.Need-list-length-requires-2
+list-length-requires-2 c κs = search needs
+
+less-requires : tie.Need-less-requires
+less-requires c κs = search needs
+
+returns : tie.Need-returns
+returns c = search needs
+
+returns-2 : tie.Need-returns-2
+returns-2 c =
+    let a = c .before .before .before .args in
+    c .suffix-begins .ensures ∙ sym (ap (λ (q : Route). begins q (a .placing) (listOf (a .list)) (listOf (a .zone))) (c .before .enum-told2 .given .1))
+
+returns-3 : tie.Need-returns-3
+returns-3 c =
+    let a = c .before .before .before .before .before .args in
+    let n : c .less .result ≡ length (listOf (a .zone)) - length (listOf (a .list)) = rw (← c .before .list-length2 .ensures, ← c .before .before .list-length .ensures) (c .less .ensures) in
+    n
+    ∙ sym (ap (λ (q : Route). begins q (a .placing) (listOf (a .list)) (listOf (a .zone))) (c .before .before .before .enum-told3 .given .1))
+
+pub begins-spec : {M : Type 1} → statement M
+begins-spec =
+    tie.close
+    (tie.spec
+    enum-told
+    enum-told-2
+    suffix-begins-requires
+    enum-told-3
+    list-length-requires
+    list-length-requires-2
+    less-requires
+    returns
+    returns-2
+    returns-3)

@@ -1,0 +1,31 @@
+-- `routing::deliver` meets its contract. Assumes nothing.
+use mathlib.Core.Path.{_≡_, refl, sym, ap, _∙_}
+use Rattle.routing.specs.Steps.{tail}
+use Rattle.routing.specs.Routing.{answered}
+use Rattle.routing.specs.Places.{delivered}
+use Rattle.routing.proofs.Parts.{tail-length}
+use borrow.Author.Needs.{needs}
+use Rattle.routing.proofs.deliver.Statement.{statement}
+use Rattle.routing.proofs.deliver.Tie as tie
+
+box-chosen-requires : tie.Need-box-chosen-requires
+box-chosen-requires c κs = search needs
+
+received-requires : tie.Need-received-requires
+received-requires c κs = search needs
+
+less-requires : tie.Need-less-requires
+less-requires c κs = search needs
+
+cast-t12 : tie.Need-cast-t12
+cast-t12 c = search needs
+
+returns : tie.Need-returns
+unfolding delivered answered
+returns c =
+    let rest = c .before .before .before .before .args .rest .now in
+    rw (c .before .before .box-chosen .ensures, c .before .received .ensures, c .less .ensures, tail-length rest)
+
+pub deliver-spec : {M : Type 1} → statement M
+deliver-spec =
+    tie.close (tie.spec box-chosen-requires received-requires less-requires cast-t12 returns)

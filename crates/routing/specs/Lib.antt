@@ -1,0 +1,4 @@
+pub mod Interface
+pub mod Steps
+pub mod Routing
+pub mod Places

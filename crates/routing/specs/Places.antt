@@ -1,0 +1,47 @@
+-- Where the route lies in the two lent lists: what is left of it is an end part of the zone that the region chooses. The parts of the program that work on the lists promise these;
+-- that they are the steps of routing is proved (proofs/Parts.antt). Assumes nothing.
+use Prim.Native.Nat.{ℕ, _-_}
+use mathlib.Core.List.{List}
+use lib.ListN.{length, drop}
+use Rattle.plan.specs.declared.Region.{Region}
+use Rattle.plan.specs.declared.Region.the-variants.{Source, Target}
+use Rattle.plan.specs.declared.Plan.{Plan}
+use Rattle.zone.specs.declared.Zone.{Zone}
+use Rattle.setup.specs.declared.Route.{Route}
+use Rattle.setup.specs.declared.Route.the-variants.{Whole, Suffix, Listed}
+use Rattle.setup.specs.declared.Placing.{Placing}
+use Rattle.setup.specs.declared.Placing.the-variants.{NoPlacing, PlacedBy}
+use Rattle.setup.specs.declared.Outer.{Outer}
+use Rattle.setup.specs.declared.Setup.{Setup}
+use Rattle.routing.specs.declared.Outcome.the-variants.{Routed}
+use Rattle.routing.specs.declared.Answer.{Answer}
+use Rattle.routing.specs.Steps.{before, tail, region3, route3, outer3, callee4, received4}
+use Rattle.routing.specs.Routing.{answered}
+
+-- of two lists, and of two zones as the program holds them, the one of the region
+abbrev pub listIn : Region → List ℕ → List ℕ → List ℕ
+listIn Source source target = source
+listIn Target source target = target
+
+abbrev pub zoneIn : Region → Zone → Zone → Zone
+zoneIn Source source target = source
+zoneIn Target source target = target
+
+-- the place of the zone at which the expanded route begins
+abbrev pub suffixBegins : Placing → List ℕ → ℕ
+suffixBegins NoPlacing zone = 0
+suffixBegins (PlacedBy t) zone = before t zone
+
+abbrev pub begins : Route → Placing → List ℕ → List ℕ → ℕ
+begins Whole placing l zone = 0
+begins Suffix placing l zone = suffixBegins placing zone
+begins Listed placing l zone = length zone - length l
+
+-- step 4, for what steps 1 to 3 gave
+unfoldable pub delivered : Plan → Setup → ℕ → Region → Outer → List ℕ → Answer
+delivered p out target r outer rest = answered (Routed (callee4 p (out .source) target r rest)) (received4 out target r outer rest) (length (tail rest))
+
+-- steps 3 and 4, for what steps 1 and 2 gave
+unfoldable pub advanced : Plan → Setup → ℕ → List ℕ → List ℕ → Answer
+advanced p out target rest targetZone =
+    delivered p out target (region3 (out .region) rest) (outer3 (out .region) rest (out .outer)) (route3 (out .region) rest targetZone)
