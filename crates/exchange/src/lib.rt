@@ -19,7 +19,7 @@ pub struct Taken {
 }
 
 // A RECORD OF A ROW
-fn copy_out(row: &[Call], r: usize) -> Taken
+pub fn copy_out(row: &[Call], r: usize) -> Taken
     ensures { λ z. ⌜ z ≡ spec.takenAt (now (row .entry)) r ⌝ }
 {
     if r < row.len() {
@@ -36,7 +36,7 @@ fn copy_out(row: &[Call], r: usize) -> Taken
 }
 
 // Nothing is stored past the end.
-fn store(row: &mut [Call], r: usize, c: Call)
+pub fn store(row: &mut [Call], r: usize, c: Call)
     ensures { λ _. ⌜ now (row .exit) ≡ set (now (row .entry)) r c ⌝ }
 {
     if r < row.len() {

@@ -187,6 +187,16 @@ pub answer-refused : (p : Plan) (out : Setup) (later : Later) (n m : ℕ) (r : R
 unfolding answer answered
 answer-refused p out later n m r e = rw (list-refused p out later n m r e)
 
+-- what is answered has the outcome in it
+has-outcome : (o : Outcome) (s : Setup) (n : ℕ) → answered o s n .outcome ≡ o
+unfolding answered refusedWith
+has-outcome (Routed c) s n = refl
+has-outcome (Refused r) s n = refl
+
+pub answer-outcome : (p : Plan) (out : Setup) (later : Later) (n m : ℕ) → answer p out later n m .outcome ≡ outcome p out later n m
+unfolding answer
+answer-outcome p out later n m = has-outcome (outcome p out later n m) (receivedOf p out) (leftOf p out)
+
 pub source-routed : (p : Plan) (out : Setup) (later : Later) (n m : ℕ) (z : Zone) (l : List ℕ) → settled p out later n m ≡ Nothing → listOf z ≡ zoneAt p Source (out .source)
     → length (listOf z) ≤ length l → sets l 0 (listOf z) ≡ sourceList p out (outcome p out later n m) l
 unfolding sourceList
