@@ -12,19 +12,13 @@ ghost use lib.ListN.{length};
 ghost use Rattle.routing.specs.Routing.{sourceList, targetList};
 ghost use Rattle.call.specs.Row.{recordAt};
 ghost use Rattle.placing.specs.Rows.{laterBy, laterFor, outcomeIn, placedIn, rowAfter};
-ghost use Rattle.placing.specs.Settled as parts;
+ghost use Rattle.placing.specs.Parts as parts;
 
 // Where a call was placed, and what routing gave. Beside a refusal, which is in what routing gave, the two numbers are 0.
 pub struct Placed {
     pub record_number: usize,
     pub use_number: u16,
     pub routed: routing::Answer,
-}
-
-// What placing answers, and the record after it.
-pub struct Settled {
-    pub placed: Placed,
-    pub call: Call,
 }
 
 // What a row of this length, with this lowest free record, refuses by itself: 16, 11.
@@ -53,31 +47,36 @@ fn port_later(c: Call) -> Later
     }
 }
 
-// What routing gave settles what becomes of the record r, which holds c.
-fn settle(a: routing::Answer, r: usize, c: Call) -> Settled
-    ensures { λ z. ⌜ z ≡ parts.settled a r c ⌝ }
+// What placing answers for the record r, which holds c, by what routing gave.
+fn answer_for(a: routing::Answer, r: usize, c: Call) -> Placed
+    ensures { λ z. ⌜ z ≡ parts.answerFor a r c ⌝ }
 {
     let o = a.outcome;
     match o {
         Outcome::Routed(_) => {
-            let call = c.placed();
-            Settled {
-                placed: Placed {
-                    record_number: r,
-                    use_number: call.use_number,
-                    routed: a,
-                },
-                call,
+            let after = c.placed();
+            Placed {
+                record_number: r,
+                use_number: after.use_number,
+                routed: a,
             }
         }
-        Outcome::Refused(_) => Settled {
-            placed: Placed {
-                record_number: 0,
-                use_number: 0,
-                routed: a,
-            },
-            call: c,
+        Outcome::Refused(_) => Placed {
+            record_number: 0,
+            use_number: 0,
+            routed: a,
         },
+    }
+}
+
+// The record c after it: with the call placed in it, or as it was.
+fn record_after(a: routing::Answer, c: Call) -> Call
+    ensures { λ z. ⌜ z ≡ parts.recordAfter a c ⌝ }
+{
+    let o = a.outcome;
+    match o {
+        Outcome::Routed(_) => c.placed(),
+        Outcome::Refused(_) => c,
     }
 }
 
@@ -97,9 +96,8 @@ pub fn place_port(
     let c = *port;
     let later = port_later(c);
     let a = routing::route_unless(plan, out, later, source_list, target_list);
-    let d = settle(a, 0, c);
-    *port = d.call;
-    d.placed
+    *port = record_after(a, c);
+    answer_for(a, 0, c)
 }
 
 // A call is placed in the row's lowest free record. Every other record stays as it was.
@@ -120,7 +118,7 @@ pub fn place(
     let t = exchange::copy_out(row, r);
     let later = later_for(n, r);
     let a = routing::route_unless(plan, out, later, source_list, target_list);
-    let d = settle(a, r, t.call);
-    exchange::store(row, r, d.call);
-    d.placed
+    let c = t.call;
+    exchange::store(row, r, record_after(a, c));
+    answer_for(a, r, c)
 }
