@@ -62,12 +62,14 @@ module _ (row : List Call) (p : Plan) (s : Setup) (n m : ℕ) where
   pub answers-placed : answerFor a r (recordAt row r) ≡ placedIn row p s n m
   answers-placed = ap (λ (o : Outcome). answerBy o a r (recordAt row r)) (answer-outcome p s (laterFor row) n m) ∙ (elim (came row p s n m) as (λ _. answerBy (outcomeIn row p s n m) a r (recordAt row r) ≡ placedIn row p s n m) [
     | routing-to c free e ↦ rw (e, places row free)
-    | refusing-by x e ↦ rw e ])
+    | refusing-by x e ↦ rw e
+  ])
 
   pub leaves-row : set row r (recordAfter a (recordAt row r)) ≡ rowAfter row p s n m
   leaves-row = ap (λ (o : Outcome). set row r (recordBy o (recordAt row r))) (answer-outcome p s (laterFor row) n m) ∙ (elim (came row p s n m) as (λ _. set row r (recordBy (outcomeIn row p s n m) (recordAt row r)) ≡ rowAfter row p s n m) [
     | routing-to c free e ↦ ap (λ (o : Outcome). set row r (recordBy o (recordAt row r))) e ∙ sym (ap (λ (o : Outcome). turned row o .row) e ∙ ap (λ (t : Turn). t .row) (places row free))
-    | refusing-by x e ↦ ap (λ (o : Outcome). set row r (recordBy o (recordAt row r))) e ∙ set-getD row r cleared ∙ sym (ap (λ (o : Outcome). turned row o .row) e) ])
+    | refusing-by x e ↦ ap (λ (o : Outcome). set row r (recordBy o (recordAt row r))) e ∙ set-getD row r cleared ∙ sym (ap (λ (o : Outcome). turned row o .row) e)
+  ])
 
 -- ---- a port: a row of one
 one-free : (free : Bool) → cond (ltb (cond free 0 1) 1) Nothing (Refuse NoFreeRecord) ≡ Nothing → _≡_ {A = ℕ} (cond free 0 1) 0
@@ -87,9 +89,11 @@ module _ (c : Call) (p : Plan) (s : Setup) (n m : ℕ) where
   pub port-placed : answerFor b 0 c ≡ placedIn one p s n m
   port-placed = ap (λ (o : Outcome). answerBy o b 0 c) (answer-outcome p s (laterFor one) n m) ∙ (elim (came one p s n m) as (λ _. answerBy (outcomeIn one p s n m) b 0 c ≡ placedIn one p s n m) [
     | routing-to x free e ↦ rw (e, port-places free)
-    | refusing-by x e ↦ rw e ])
+    | refusing-by x e ↦ rw e
+  ])
 
   pub port-record : recordAfter b c ≡ recordAt (rowAfter one p s n m) 0
   port-record = ap (λ (o : Outcome). recordBy o c) (answer-outcome p s (laterFor one) n m) ∙ (elim (came one p s n m) as (λ _. recordBy (outcomeIn one p s n m) c ≡ recordAt (rowAfter one p s n m) 0) [
     | routing-to x free e ↦ ap (λ (o : Outcome). recordBy o c) e ∙ sym (ap (λ (o : Outcome). recordAt (turned one o .row) 0) e ∙ ap (λ (t : Turn). recordAt (t .row) 0) (port-places free))
-    | refusing-by x e ↦ ap (λ (o : Outcome). recordBy o c) e ∙ sym (ap (λ (o : Outcome). recordAt (turned one o .row) 0) e) ])
+    | refusing-by x e ↦ ap (λ (o : Outcome). recordBy o c) e ∙ sym (ap (λ (o : Outcome). recordAt (turned one o .row) 0) e)
+  ])
