@@ -133,3 +133,32 @@ pub fn command(row: &mut [Call], r: usize, use_number: u16, k: Command) -> Answe
     store(row, r, s.call);
     s.answer
 }
+
+// A ROW BY VALUE, for callers that lend nothing.
+// What a command answers, and the records after it.
+pub struct Answered {
+    pub answer: Answer,
+    pub calls: [Call; 1025],
+}
+
+// How many of 1,025 records are the row: no more than there are.
+fn within(length: usize) -> usize
+    ensures { λ r. ⌜ r ≡ spec.within length ⌝ }
+{
+    if 1025 < length { 1025 } else { length }
+}
+
+// A command for a row that is the first `length` of these records. There is one record more than a row may have, so that a row that is too long can be had too.
+pub fn command_in(
+    mut calls: [Call; 1025],
+    length: usize,
+    r: usize,
+    use_number: u16,
+    k: Command,
+) -> Answered
+    ensures { λ z. ⌜ z ≡ spec.commandedIn calls length r «use_number» k ⌝ }
+{
+    let n = within(length);
+    let answer = command(&mut calls[..n], r, use_number, k);
+    Answered { answer, calls }
+}

@@ -105,7 +105,7 @@ module _ (row : List Call) (p : Plan) (s : Setup) (n m : ℕ) (c : Callee) (e : 
   z = placedIn row p s n m
 
   nothing-later : laterFor row ≡ Nothing
-  nothing-later = elim (came row p s n m) as (λ _. laterFor row ≡ Nothing) [ | routing-to b free q ↦ free | refusing-by x q ↦ absurd (routed-refused c x (sym e ∙ q)) ]
+  nothing-later = elim (came row p s n m) as (λ _. laterFor row ≡ Nothing) [ routing-to b free q ↦ free | refusing-by x q ↦ absurd (routed-refused c x (sym e ∙ q)) ]
 
   turned-is : turned row (outcomeIn row p s n m) ≡ placeAt row (lowestFree row)
   turned-is = ap (turned row) e ∙ places row nothing-later

@@ -387,17 +387,19 @@ module _ {M : Type 1} {𝓤 : URA M} {H : Heap 𝓤} {A : Atoms 𝓤} {K : Type 
       use1 W (later (some (λ (δ : GName). ‵ (MutSlice (named 0) (ν ∷ []) R .own (record { ptr = (b, o); name = δ; now = fs }) (sliceVal (b, o) (length fs) ∷ [])) ⊛ ‵ (flent (ν ∷ []) (Held R (length fs) b o δ)))))
       (lends-slice 𝓤 H A W R (named 0) (ν ∷ []) fs b o room) $ await t z $ pick t (λ δ. split t $ move t (2 ∷ []) $ f ν δ))
 
+  -- what comes back is as its type asks
   pub takes-front : K → Soaks G → (R : RattleType) (k : Kind R) (n : ℕ) (fs gs zs : List (R .Denot)) {ν : ℕ} {δ : GName} (b o : ℕ) → (length zs ≡ length fs → length (zs ++ gs) ≡ n)
-      → Step K W (‵ (cellAt fullShare (Array R n .mir) (of-array k n .val (zs ++ gs) ∷ []) b o) ∷ Γ) G
-      (‵ (flft (ν ∷ []) fullShare) ∷ ‵ (flent (ν ∷ []) (Held R (length fs) b o δ)) ∷ ‵ (finally R δ zs) ∷ ‵ (cells (mem R) gs b (place (mem R .size) o (length fs))) ∷ Γ) G
+      → (Ok (of-array k n) (zs ++ gs) → Seq K W (‵ (cellAt fullShare (Array R n .mir) (of-array k n .val (zs ++ gs) ∷ []) b o) ∷ Γ) G)
+      → Seq K W (‵ (flft (ν ∷ []) fullShare) ∷ ‵ (flent (ν ∷ []) (Held R (length fs) b o δ)) ∷ ‵ (finally R δ zs) ∷ ‵ (cells (mem R) gs b (place (mem R .size) o (length fs))) ∷ Γ) G
   unfolding partOf
-  takes-front t z R k n fs gs zs {ν} {δ} b o long = step (λ f.
+  takes-front t z R k n fs gs zs {ν} {δ} b o long f =
       lft-end t z $ use3 W (later (‵ (Arr (mem R) (length fs) .lies zs b o))) (slice-back 𝓤 H A W R (ν ∷ []) δ zs (length fs) b o) $ await t z $ fsplit t $ feqL t (λ l.
       use2 W (‵ (cells (mem R) (zs ++ gs) b o))
       (subst (λ (j : ℕ). ent 𝓤 (sep 𝓤 (sem 𝓤 H A (cells (mem R) zs b o)) (sem 𝓤 H A (cells (mem R) gs b (place (mem R .size) o j)))) (sem 𝓤 H A (cells (mem R) (zs ++ gs) b o))) l (cells-paste 𝓤 H A (mem R) zs gs b o)) $
       use1 W (‵ (row R fullShare (zs ++ gs) b o)) (whole-out 𝓤 H A W R (zs ++ gs) b o) $ feqI t ℕ (length (zs ++ gs)) n (long l) $ fjoin t $
       use1 W (‵ (partAt (Array R n) fullShare (zs ++ gs) b o)) (array-whole 𝓤 H A W R fullShare n (zs ++ gs) b o) $ fpick t (λ vs. fsplit t $
-      spelt t (Array R n) (Is (Array R n)) (shows 𝓤 H A (Array R n)) (λ ys. of-array k n .val ys ∷ []) (of-array k n .tells) fullShare (zs ++ gs) vs b o $ move t (1 ∷ []) $ drop t $ f)))
+      spelt t (Array R n) (Is (Array R n)) (shows 𝓤 H A (Array R n)) (λ ys. of-array k n .val ys ∷ []) (of-array k n .tells) fullShare (zs ++ gs) vs b o $ move t (1 ∷ []) $
+      peeks t (Array R n) (Is (Array R n)) (shows 𝓤 H A (Array R n)) (zs ++ gs) (of-array k n .val (zs ++ gs) ∷ []) (λ is. drop t $ f is)))
 
 -- ---- a loop: the environment of a function's locals, at their blocks
 abbrev pub env : List Local → List ℕ → List (Ty × ℕ)
