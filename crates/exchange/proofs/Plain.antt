@@ -77,7 +77,7 @@ all-ok [] us e = tt
 all-ok (c ∷ cs) [] e = absurd e
 all-ok (c ∷ cs) (u ∷ us) e = (subst (Is T.the-row c) (call .tells c (u ∷ []) (e .0)) (e .0), all-ok cs us (e .1))
 
-abbrev w : T.the-field .row .Denot → Val
+abbrev pub w : T.the-field .row .Denot → Val
 w = LL.tuple-val T.the-type T′.the-laws
 
 each-ok : (cs : List Call) → AllOk cs → shadow (each (T.the-field .row .Denot) (T.the-field .row .own) (map (T.the-field .into) cs) (map w (map (T.the-field .into) cs)))
@@ -88,7 +88,7 @@ long : (cs : List Call) → length (map (T.the-field .into) cs) ≡ length cs
 long [] = refl
 long (c ∷ cs) = ap suc (long cs)
 
-field-ok : (cs : List Call) → Ok calls cs → shadow (Array (T.the-field .row) 1025 .own (map (T.the-field .into) cs) (arrayVal (map w (map (T.the-field .into) cs)) ∷ []))
+pub field-ok : (cs : List Call) → Ok calls cs → shadow (Array (T.the-field .row) 1025 .own (map (T.the-field .into) cs) (arrayVal (map w (map (T.the-field .into) cs)) ∷ []))
 field-ok cs is = (map w (map (T.the-field .into) cs), ((refl, long cs ∙ is .1 .0 .1), each-ok cs (all-ok cs (is .0) (is .1 .1))))
 
 pub by-fields : (cs : List Call) → map (call .val) cs ≡ map w (map (T.the-field .into) cs)

@@ -142,7 +142,7 @@ pub struct Answered {
 }
 
 // How many of 1,025 records are the row: no more than there are.
-fn within(length: usize) -> usize
+pub fn within(length: usize) -> usize
     ensures { λ r. ⌜ r ≡ spec.within length ⌝ }
 {
     if 1025 < length { 1025 } else { length }

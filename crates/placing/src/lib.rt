@@ -9,9 +9,11 @@ use setup::Setup;
 ghost use mathlib.Core.Path.{_≡_};
 ghost use mathlib.Core.List.{[], _∷_};
 ghost use lib.ListN.{length};
+ghost use lib.ListN.{length as records};
 ghost use Rattle.routing.specs.Routing.{sourceList, targetList};
 ghost use Rattle.call.specs.Row.{recordAt};
-ghost use Rattle.placing.specs.Rows.{laterBy, laterFor, outcomeIn, placedIn, rowAfter};
+ghost use Rattle.placing.specs.Rows.{laterBy, laterFor, outcomeIn, placedIn, rowAfter, rowPlaced};
+ghost use Rattle.exchange.specs.Lent.{rowIn};
 ghost use Rattle.placing.specs.Parts as parts;
 
 // Where a call was placed, and what routing gave. Beside a refusal, which is in what routing gave, the two numbers are 0.
@@ -121,4 +123,29 @@ pub fn place(
     let c = t.call;
     exchange::store(row, r, record_after(a, c));
     answer_for(a, r, c)
+}
+
+// A ROW BY VALUE, for callers that lend no row.
+// What placing answers, and the records after it.
+pub struct RowPlaced {
+    pub placed: Placed,
+    pub calls: [Call; 1025],
+}
+
+// A call is placed in a row that is the first `length` of these records.
+pub fn place_in(
+    mut calls: [Call; 1025],
+    length: usize,
+    plan: Plan,
+    out: Setup,
+    source_list: &mut [u8],
+    target_list: &mut [u8],
+) -> RowPlaced
+    ensures { λ z. ⌜ (z ≡ rowPlaced calls length plan out (records (now («source_list» .entry))) (records (now («target_list» .entry))))
+        × (now («source_list» .exit) ≡ sourceList plan out (outcomeIn (rowIn calls length) plan out (records (now («source_list» .entry))) (records (now («target_list» .entry)))) (now («source_list» .entry)))
+        × (now («target_list» .exit) ≡ targetList plan out (outcomeIn (rowIn calls length) plan out (records (now («source_list» .entry))) (records (now («target_list» .entry)))) (now («target_list» .entry))) ⌝ }
+{
+    let n = exchange::within(length);
+    let placed = place(&mut calls[..n], plan, out, source_list, target_list);
+    RowPlaced { placed, calls }
 }

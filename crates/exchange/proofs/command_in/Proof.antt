@@ -1,10 +1,8 @@
 -- `exchange::command_in` meets its contract: a walk of its MIR, by hand. The first records of the local array are lent to `command` for a lifetime made for the call, and taken back.
 -- Assumes nothing.
-use Rattle.walk.proofs.Walk.{_≡_, refl, sym, _∙_, ap, subst, Bool, true, false, not, List, [], _∷_, ℕ, _<_, _≤_, _^_, arith, Holds, ltb, ltb→lt, nltb→le, length, set, URA, fullShare, lt-ltb, le-ltb, named, w16, w64, Val, vint, SProp, ent, emp, via, fst∗, id⊢, GName, ftrue, fat, flft, Memory, Routine, Heap, Calls, Loops, WpFn, Tables, Atoms, Fun, givenOf, tables, tablesOf, Given, ‵, _⊛_, ⋆, _$_, _∵_, !, qed, by, move, drop, use1, split, join, rewrite, fsplit, fjoin, suffices, done, agg, look, init, stop, from, load, addr, and-then, no-more, of-opd, assigns, land, returns, enter, alloc1, alloc0, params1, pass1, pass0, free0, FmC, fmOf, owns, Is, mem, uint-makes, u16, usize, RefT, sliceVal, MutSlice, Room, owned, nothing, Contract, Triple, onEntry, tripleOf, entered, cited, says, walkOf, ends-at}
+use Rattle.walk.proofs.Walk.{_≡_, refl, sym, _∙_, ap, List, [], _∷_, ℕ, _<_, _^_, arith, length, set, URA, fullShare, named, w16, w64, Val, vint, SProp, ent, emp, via, fst∗, id⊢, GName, ftrue, fat, flft, Memory, Routine, Heap, Calls, Loops, WpFn, Tables, Atoms, Fun, givenOf, tables, tablesOf, Given, ‵, _⊛_, ⋆, _$_, _∵_, !, qed, by, move, drop, use1, split, join, rewrite, fsplit, fjoin, suffices, done, agg, look, init, stop, from, load, addr, and-then, no-more, of-opd, assigns, land, returns, enter, alloc1, alloc0, params1, pass1, pass0, free0, FmC, fmOf, owns, Is, mem, uint-makes, u16, usize, RefT, sliceVal, MutSlice, Room, owned, nothing, Contract, Triple, onEntry, tripleOf, entered, cited, says, walkOf, ends-at}
 use Rattle.walk.proofs.Lent.{of-uint, Ok, typed, told, free-at, made, calls-exact, calls-with, lent, env, Param, of-plain, stays, proves, lends-front, takes-front}
 use mathlib.Core.List.{_++_}
-use mathlib.Core.Bool.{cond}
-use mathlib.Core.Logic.{_⊎_, inl, inr, ⊎-elim}
 use mir.Syntax.{tyArray}
 use lib.ListN.{take, take-append-drop, drop as dropN}
 use lib.Seq.{length-take-le, length-front}
@@ -17,7 +15,7 @@ use Rattle.call.specs.declared.Step.{Step}
 use Rattle.call.specs.Row.{command as by-command, turn}
 use Rattle.exchange.specs.declared.Answered.{Answered}
 use Rattle.exchange.specs.Lent.{answering as with-row, within as withinOf, rowIn, stepIn, commandedIn}
-use Rattle.exchange.proofs.Turns.{turn-answer, turn-row}
+use Rattle.exchange.proofs.Turns.{turn-answer, turn-row, few}
 use Rattle.exchange.proofs.Plain.{call, command, answer, calls, answered, answering, answering-ok, by-fields}
 use Rattle.call.proofs.Call as T
 use Rattle.call.proofs.Call.Laws as T′
@@ -41,17 +39,6 @@ use Rattle.exchange.proofs.command_in.Code as code
 
 abbrev ps : List (Param 0)
 ps = of-plain (Array T.the-row 1025) calls (λ x f. refl) ∷ of-plain usize (of-uint w64) (λ x f. refl) ∷ of-plain usize (of-uint w64) (λ x f. refl) ∷ of-plain u16 (of-uint w16) (λ x f. refl) ∷ of-plain G.the-row command (λ x f. refl) ∷ []
-
-apart : (n : ℕ) → (1025 < n) ⊎ (n ≤ 1025)
-apart n = by (ltb 1025 n) refl
-  where
-    by : (t : Bool) → ltb 1025 n ≡ t → (1025 < n) ⊎ (n ≤ 1025)
-    by true e = inl (ltb→lt 1025 n (subst Holds (sym e) tt))
-    by false e = inr (nltb→le 1025 n (subst (λ (t : Bool). Holds (not t)) (sym e) tt))
-
--- at most as many as there are
-few : (n : ℕ) → withinOf n ≤ 1025
-few n = ⊎-elim (λ (l : 1025 < n). subst (λ (t : Bool). cond t 1025 n ≤ 1025) (sym (lt-ltb 1025 n l)) (omega arith)) (λ (l : n ≤ 1025). subst (λ (t : Bool). cond t 1025 n ≤ 1025) (sym (le-ltb 1025 n l)) l) (apart n)
 
 module _ {M : Type 1} (𝓤 : URA M) (H : Heap 𝓤) (A : Atoms 𝓤) (mem : Memory → SProp 𝓤) (run : Routine → Fun 𝓤) where
   abbrev Within : Contract 𝓤
