@@ -50,6 +50,10 @@ answer-ok s is = LL.owed S.the-type S′.the-laws s _ is .0
 pub call-ok : (s : Step) → Ok stepped s → Ok call (s .call)
 call-ok s is = LL.owed S.the-type S′.the-laws s _ is .1 .0
 
+-- asked of a step
+pub step-ok : (s : Step) → Ok answer (s .answer) → Ok call (s .call) → Ok stepped s
+step-ok s a c = LL.owes S.the-type S′.the-laws s (a, (c, tt))
+
 -- asked of a record taken
 abbrev pub copied : Bool → Call → Taken
 copied t c = record { inside = t; call = c }

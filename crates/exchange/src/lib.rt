@@ -134,7 +134,15 @@ pub fn command(row: &mut [Call], r: usize, use_number: u16, k: Command) -> Answe
     s.answer
 }
 
-// A ROW BY VALUE, for callers that lend nothing.
+// BY VALUE, for callers that lend nothing.
+// A command for a port that is this record; the record after it stands beside the answer.
+pub fn port_command_in(mut port: Call, k: Command) -> Step
+    ensures { λ r. ⌜ r ≡ step port k ⌝ }
+{
+    let answer = port_command(&mut port, k);
+    Step { answer, call: port }
+}
+
 // What a command answers, and the records after it.
 pub struct Answered {
     pub answer: Answer,

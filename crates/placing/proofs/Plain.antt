@@ -5,6 +5,7 @@ use denote.Array.{Array}
 use Rattle.call.specs.declared.Call.{Call}
 use Rattle.exchange.proofs.Plain.{field-ok}
 use Rattle.placing.specs.declared.Placed.{Placed}
+use Rattle.placing.specs.declared.PortPlaced.{PortPlaced}
 use Rattle.placing.specs.declared.RowPlaced.{RowPlaced}
 use Rattle.exchange.specs.declared.Taken.{Taken}
 use Rattle.walk.proofs.Lent.{Kind, Ok, of-struct, of-enum, of-array}
@@ -20,6 +21,8 @@ use Rattle.routing.proofs.Answer as R
 use Rattle.routing.proofs.Answer.Laws as R′
 use Rattle.exchange.proofs.Taken as K
 use Rattle.exchange.proofs.Taken.Laws as K′
+use Rattle.placing.proofs.PortPlaced as F
+use Rattle.placing.proofs.PortPlaced.Laws as F′
 use Rattle.placing.proofs.RowPlaced as E
 use Rattle.placing.proofs.RowPlaced.Laws as E′
 use Rattle.placing.proofs.Placed as D
@@ -61,3 +64,10 @@ placing z cs = record { placed = z; calls = cs }
 
 pub placing-ok : (z : Placed) (cs : List Call) → Ok placed z → Ok calls cs → Ok row-placed (placing z cs)
 placing-ok z cs is are = LL.owes E.the-type E′.the-laws (placing z cs) (is, (field-ok cs are, tt))
+
+-- a port by value
+abbrev pub port-placed : Kind F.the-row
+port-placed = of-struct F.the-type F′.the-laws F′.the-copy F′.the-plain
+
+pub port-placed-ok : (z : PortPlaced) → Ok call (z .call) → Ok placed (z .placed) → Ok port-placed z
+port-placed-ok z c is = LL.owes F.the-type F′.the-laws z (c, (is, tt))

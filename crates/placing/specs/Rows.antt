@@ -1,7 +1,7 @@
 -- PLACING in a lent row (01 'Calls'): routing's refusals 23, 5, 18, then the row's own, 16 and 11; else the lowest free record takes the call. A port is a row of one. Assumes nothing.
 use Prim.Native.Nat.{ℕ}
 use mathlib.Core.Bool.{cond}
-use mathlib.Core.List.{List, _++_}
+use mathlib.Core.List.{List, [], _∷_, _++_}
 use lib.ListN.{length, drop}
 use lib.Dec.{ltb}
 use Rattle.refusal.specs.declared.Refusal.the-variants.{RowTooLong, NoFreeRecord}
@@ -14,9 +14,10 @@ use Rattle.routing.specs.declared.Outcome.the-variants.{Routed, Refused}
 use Rattle.routing.specs.declared.Answer.{Answer}
 use Rattle.routing.specs.Routing.{outcome, answer}
 use Rattle.call.specs.declared.Call.{Call}
-use Rattle.call.specs.Row.{Turn, Reply, placed-at, says, place, lowestFree, refuses, turn}
+use Rattle.call.specs.Row.{Turn, Reply, placed-at, says, place, recordAt, lowestFree, refuses, turn}
 use Rattle.exchange.specs.Lent.{within, rowIn}
 use Rattle.placing.specs.declared.Placed.{Placed}
+use Rattle.placing.specs.declared.PortPlaced.{PortPlaced}
 use Rattle.placing.specs.declared.RowPlaced.{RowPlaced}
 
 -- what a row of n whose lowest free record is r refuses by itself: 16, 11
@@ -48,6 +49,10 @@ placedIn row p s n m = answered (turned row (outcomeIn row p s n m) .reply) (ans
 
 abbrev pub rowAfter : List Call → Plan → Setup → ℕ → ℕ → List Call
 rowAfter row p s n m = turned row (outcomeIn row p s n m) .row
+
+-- A port by value.
+abbrev pub portPlaced : Call → Plan → Setup → ℕ → ℕ → PortPlaced
+portPlaced c p s n m = record { call = recordAt (rowAfter (c ∷ []) p s n m) 0; placed = placedIn (c ∷ []) p s n m }
 
 -- A ROW BY VALUE: the first k of the records; those past it stay.
 abbrev pub rowPlaced : List Call → ℕ → Plan → Setup → ℕ → ℕ → RowPlaced

@@ -12,7 +12,7 @@ ghost use lib.ListN.{length};
 ghost use lib.ListN.{length as records};
 ghost use Rattle.routing.specs.Routing.{sourceList, targetList};
 ghost use Rattle.call.specs.Row.{recordAt};
-ghost use Rattle.placing.specs.Rows.{laterBy, laterFor, outcomeIn, placedIn, rowAfter, rowPlaced};
+ghost use Rattle.placing.specs.Rows.{laterBy, laterFor, outcomeIn, placedIn, rowAfter, portPlaced, rowPlaced};
 ghost use Rattle.exchange.specs.Lent.{rowIn};
 ghost use Rattle.placing.specs.Parts as parts;
 
@@ -125,7 +125,29 @@ pub fn place(
     answer_for(a, r, c)
 }
 
-// A ROW BY VALUE, for callers that lend no row.
+// BY VALUE, for callers that lend no record.
+// What placing answers, and the port's record after it.
+pub struct PortPlaced {
+    pub call: Call,
+    pub placed: Placed,
+}
+
+// A call is placed in a port that is this record.
+pub fn place_port_in(
+    mut port: Call,
+    plan: Plan,
+    out: Setup,
+    source_list: &mut [u8],
+    target_list: &mut [u8],
+) -> PortPlaced
+    ensures { λ z. ⌜ (z ≡ portPlaced port plan out (length (now («source_list» .entry))) (length (now («target_list» .entry))))
+        × (now («source_list» .exit) ≡ sourceList plan out (outcomeIn (port ∷ []) plan out (length (now («source_list» .entry))) (length (now («target_list» .entry)))) (now («source_list» .entry)))
+        × (now («target_list» .exit) ≡ targetList plan out (outcomeIn (port ∷ []) plan out (length (now («source_list» .entry))) (length (now («target_list» .entry)))) (now («target_list» .entry))) ⌝ }
+{
+    let placed = place_port(&mut port, plan, out, source_list, target_list);
+    PortPlaced { call: port, placed }
+}
+
 // What placing answers, and the records after it.
 pub struct RowPlaced {
     pub placed: Placed,

@@ -35,7 +35,7 @@ use denote.Memory.{mem, shares, partAt, partOf, cellAt}
 use denote.Plain.{UInt, uint-tells, uint-copy, uint-makes, uint-lawful, Boolean, bool-tells, bool-copy, bool-makes, bool-lawful}
 use denote.Ref.{RefT, MutRef, ShrRef, ptr-vals, mut-tells, shr-tells}
 use denote.Slice.{finally, sliceVal, MutSlice, ShrSlice, Room, at-slice, heres, codedHoleys, slice-vals, mut-slice-tells, shr-slice-tells}
-use denote.Lend.{Held, lends-shr-slice, lends-slice, slice-back}
+use denote.Lend.{Held, lends-ref, ref-back, lends-shr-slice, lends-slice, slice-back}
 use denote.Array.{Array, each, arrayVal, array-tells, array-makes, array-copy, array-lawful}
 use denote.ArrayMemory.{Single, array-apart, array-whole}
 use types.Tokens.{lft-new, lft-end, lent-back}
@@ -400,6 +400,28 @@ module _ {M : Type 1} {𝓤 : URA M} {H : Heap 𝓤} {A : Atoms 𝓤} {K : Type 
       use1 W (‵ (partAt (Array R n) fullShare (zs ++ gs) b o)) (array-whole 𝓤 H A W R fullShare n (zs ++ gs) b o) $ fpick t (λ vs. fsplit t $
       spelt t (Array R n) (Is (Array R n)) (shows 𝓤 H A (Array R n)) (λ ys. of-array k n .val ys ∷ []) (of-array k n .tells) fullShare (zs ++ gs) vs b o $ move t (1 ∷ []) $
       peeks t (Array R n) (Is (Array R n)) (shows 𝓤 H A (Array R n)) (zs ++ gs) (of-array k n .val (zs ++ gs) ∷ []) (λ is. drop t $ f is)))
+
+-- ---- a value in a local is lent as a `&mut T`, for a lifetime ν that is made for a call, and taken back once the call has returned
+module _ {M : Type 1} {𝓤 : URA M} {H : Heap 𝓤} {A : Atoms 𝓤} {K : Type 0} {W : Given 𝓤 H A} {Γ : List (Item 𝓤)} {G : Goal 𝓤 H} where
+  pub lends-local : K → Soaks G → (R : RattleType) (k : Kind R) (x : R .Denot) (b o : ℕ) → Ok k x
+      → ((ν : ℕ) (δ : GName) → Seq K W (‵ (flft (ν ∷ []) fullShare) ∷ ‵ (MutRef (named 0) (ν ∷ []) R .own (record { ptr = (b, o); name = δ; now = x }) (vptr b o ∷ [])) ∷ ‵ (flent (ν ∷ []) (Body (mem R) b o δ)) ∷ Γ) G)
+      → Seq K W (‵ (cellAt fullShare (R .mir) (k .val x ∷ []) b o) ∷ Γ) G
+  unfolding partOf
+  lends-local t z R k x b o is f =
+      owned t R (Is R) (k .makes 𝓤 H A W) x (k .val x ∷ []) is $ move t (1 ∷ 0 ∷ []) $ fjoin t $
+      fpack t (List Val) (λ us. fsep (cellAt fullShare (R .mir) us b o) (R .own x us)) (k .val x ∷ []) $ lft-new t z (λ ν. move t (1 ∷ []) $
+      use1 W (later (some (λ (δ : GName). ‵ (MutRef (named 0) (ν ∷ []) R .own (record { ptr = (b, o); name = δ; now = x }) (vptr b o ∷ [])) ⊛ ‵ (flent (ν ∷ []) (Body (mem R) b o δ)))))
+      (lends-ref 𝓤 H A W R (named 0) (ν ∷ []) x b o) $ await t z $ pick t (λ δ. split t $ move t (2 ∷ []) $ f ν δ))
+
+  -- what comes back is as its type asks
+  pub takes-local : K → Soaks G → (R : RattleType) (k : Kind R) (x : R .Denot) {ν : ℕ} {δ : GName} (b o : ℕ)
+      → (Ok k x → Seq K W (‵ (cellAt fullShare (R .mir) (k .val x ∷ []) b o) ∷ Γ) G)
+      → Seq K W (‵ (flft (ν ∷ []) fullShare) ∷ ‵ (flent (ν ∷ []) (Body (mem R) b o δ)) ∷ ‵ (fres δ (R .coded .code x)) ∷ Γ) G
+  unfolding partOf
+  takes-local t z R k x {ν} {δ} b o f =
+      lft-end t z $ use3 W (later (‵ (mem R .lies x b o))) (ref-back 𝓤 H A W R (ν ∷ []) δ x b o) $ await t z $ fpick t (λ vs. fsplit t $
+      spelt t R (Is R) (shows 𝓤 H A R) (λ y. k .val y ∷ []) (k .tells) fullShare x vs b o $ move t (1 ∷ []) $
+      peeks t R (Is R) (shows 𝓤 H A R) x (k .val x ∷ []) (λ is. drop t $ f is))
 
 -- ---- a loop: the environment of a function's locals, at their blocks
 abbrev pub env : List Local → List ℕ → List (Ty × ℕ)
