@@ -26,6 +26,7 @@ use Rattle.exchange.proofs.port_command as port-command
 use Rattle.exchange.proofs.command as command
 use Rattle.exchange.proofs.within as within
 use Rattle.exchange.proofs.command_in as command-in
+use Rattle.exchange.proofs.port_command_in as port-command-in
 
 module _ {M : Type 1} (𝓤 : URA M) (H : Heap 𝓤) (A : Atoms 𝓤) (mem : Memory → SProp 𝓤) (run : Routine → Fun 𝓤) where
   pub copy-out-says : (κs : Lfts (copy-out.signature .lifetimes)) (a : Args copy-out.signature κs) (g : copy-out.clauses 𝓤 H A mem run κs a .ghost) (r : Res copy-out.signature κs) (e : AtExit copy-out.ended κs)
@@ -63,3 +64,7 @@ module _ {M : Type 1} (𝓤 : URA M) (H : Heap 𝓤) (A : Atoms 𝓤) (mem : Mem
   pub command-in-says : (κs : Lfts (command-in.signature .lifetimes)) (a : Args command-in.signature κs) (g : command-in.clauses 𝓤 H A mem run κs a .ghost) (r : Res command-in.signature κs) (e : AtExit command-in.ended κs)
       → ent 𝓤 (command-in.clauses 𝓤 H A mem run κs a .ensures g r e) (fact 𝓤 (r ≡ commandedIn (a .0) (a .1 .0) (a .1 .1 .0) (a .1 .1 .1 .0) (a .1 .1 .1 .1 .0)))
   command-in-says κs a g r e = id⊢ 𝓤 _
+
+  pub port-command-in-says : (κs : Lfts (port-command-in.signature .lifetimes)) (a : Args port-command-in.signature κs) (g : port-command-in.clauses 𝓤 H A mem run κs a .ghost) (r : Res port-command-in.signature κs) (e : AtExit port-command-in.ended κs)
+      → ent 𝓤 (port-command-in.clauses 𝓤 H A mem run κs a .ensures g r e) (fact 𝓤 (r ≡ step (a .0) (a .1 .0)))
+  port-command-in-says κs a g r e = id⊢ 𝓤 _

@@ -1,4 +1,4 @@
-// Runs placing and commands in rows by the code: the boundary lines of a row, every pair of a placing's refusals, and the pairs of a command's that a row adds; and prints what it saw.
+// Runs placing and commands in rows by the code: the boundary lines of a row, every pair of a placing's refusals, and the pairs of a command's that a row adds; a port used twice; and prints what it saw.
 use call::Answer;
 use call::Call;
 use call::Command;
@@ -373,6 +373,72 @@ fn used_twice() {
     does(b"accept by use number 2", row, 0, 2, Command::Accept);
 }
 
+// ---- a port
+
+// A placing in a port; what it answers, the first place of each list then (7 before), and the record.
+fn place_port(port: Call) -> Call {
+    let mut source = [7u8; 32];
+    let mut target = [7u8; 32];
+    let z = placing::place_port_in(
+        port,
+        plan_with(false),
+        setup_with(false),
+        &mut source,
+        &mut target,
+    );
+    let seen = z.placed;
+    say_placed(seen);
+    say(b"; the lists begin with ");
+    say_byte(source[0]);
+    say(b" and ");
+    say_byte(target[0]);
+    say(b"\n");
+    z.call
+}
+
+fn port_does(name: &[u8], port: Call, k: Command) -> Call {
+    let z = exchange::port_command_in(port, k);
+    let answer = z.answer;
+    pair(name, answer.number());
+    z.call
+}
+
+// A port takes a call, refuses another meanwhile, and takes one again when both ends are idle. Its commands name no use number; on a free record they are refused 12 and 14.
+fn port_used_twice() {
+    say(b"a cleared port, used twice\n");
+    let port = port_does(b"accept, when it is free", Call::cleared(), Command::Accept);
+    let port = port_does(
+        b"delivery, when it is free",
+        port,
+        Command::Deliver(Side::Caller),
+    );
+    let port = place_port(port);
+    let port = place_port(port);
+    let port = port_does(b"busy", port, Command::Busy);
+    let port = port_does(
+        b"delivery to the caller",
+        port,
+        Command::Deliver(Side::Caller),
+    );
+    let port = port_does(
+        b"delivery to the caller",
+        port,
+        Command::Deliver(Side::Caller),
+    );
+    let port = port_does(
+        b"delivery to the caller",
+        port,
+        Command::Deliver(Side::Caller),
+    );
+    let port = port_does(
+        b"delivery to the callee",
+        port,
+        Command::Deliver(Side::Callee),
+    );
+    let port = place_port(port);
+    port_does(b"accept", port, Command::Accept);
+}
+
 pub fn main() {
     row_of_three();
     row_lengths();
@@ -381,4 +447,5 @@ pub fn main() {
     names();
     commands();
     used_twice();
+    port_used_twice();
 }
