@@ -3,3 +3,4 @@ pub mod Accepted
 pub mod Texts
 pub mod Trips
 pub mod Desks
+pub mod Exact
