@@ -1,10 +1,11 @@
-// Routes the setups of standard input, a line each, on the teaching plan, and compares each answer and both lent lists with what the line says. A line is written again as it is read (what was
-// tried, what was expected), and then what came.
+// Routes the setups of standard input, a line each, on the teaching plan, and compares each answer and both lent lists, in every place, with what the line says. A line is written again as it is
+// read (what was tried, what was expected), and then what came.
 //
 // A line is a title, a colon and values; in them, small letters and other signs are for the reader. A value is a number, a capital letter, - for none, or types in brackets. In order:
 //   the plan (T teaching, B broken, J teaching and the setup has junk past its lengths), the rooms of the two lists, the caller's own refusal (- routing alone, N nothing, or its number);
 //   the setup: region (S, T), source, string in quotes, target, route (W whole, S suffix, L list), list, placing type, outer address;
-//   what is expected: the refusal's number, or 0 and the box (F, L, T, R, E; its number; its address), region, target, types left, outer address, and the zones in the two lists.
+//   what is expected: 0 and the box (F, L, T, R, E; its number; its address), region, target, outer address, types left, and the zones in the two lists; or a refusal's number alone: then the box
+//   is none, the setup blank, and both lists are as they were.
 // A line without a colon is only written again.
 ghost use Prim.Native.Nat.{_≤_};
 use libc::STDIN_FILENO;
@@ -36,7 +37,7 @@ const NUMBER: u8 = 2;
 
 const STRING: u8 = 3;
 
-// The places of the values. A list has 34: how many types, and the types.
+// The places of the values. A list, and the string, has 34: how many there are, and then they.
 const PLAN: usize = 0;
 
 const SOURCE_ROOM: usize = 1;
@@ -49,47 +50,47 @@ const REGION: usize = 4;
 
 const SOURCE: usize = 5;
 
-const SENT_TARGET: usize = 6;
+const DIALLED: usize = 6;
 
-const ROUTE: usize = 7;
+const TARGET: usize = 40;
 
-const LIST: usize = 8;
+const ROUTE: usize = 41;
 
-const PLACING: usize = 42;
+const LIST: usize = 42;
 
-const OUTER: usize = 43;
+const PLACING: usize = 76;
 
-const REFUSED: usize = 44;
+const OUTER: usize = 77;
 
-const BOX: usize = 45;
+const REFUSED: usize = 78;
 
-const BOX_NUMBER: usize = 46;
+const BOX: usize = 79;
 
-const BOX_ADDRESS: usize = 47;
+const BOX_NUMBER: usize = 80;
 
-const REGION_AFTER: usize = 48;
+const BOX_ADDRESS: usize = 81;
 
-const TARGET_AFTER: usize = 49;
+const REGION_AFTER: usize = 82;
 
-const LEFT: usize = 50;
+const TARGET_AFTER: usize = 83;
 
 const OUTER_AFTER: usize = 84;
 
-const SOURCE_ZONE: usize = 85;
+const LEFT: usize = 85;
 
-const TARGET_ZONE: usize = 119;
+const SOURCE_ZONE: usize = 119;
+
+const TARGET_ZONE: usize = 153;
 
 // Where no value is: an empty list.
-const NOWHERE: usize = 160;
+const NOWHERE: usize = 200;
 
 struct Line {
     mode: u8,
-    values: [u32; 160],
     next: usize,
     list: usize,
     number: u32,
-    symbols: [u8; 32],
-    len: u8,
+    values: [u32; 200],
 }
 
 // How many answers were looked at, and how many were as expected; and the line that is being read.
@@ -99,18 +100,22 @@ struct State {
     line: Line,
 }
 
-// A callee box: its letter, its type or number, its address.
+// What an outcome is in numbers: the refusal's, and the box's letter, its type or number, its address.
 struct Reached {
+    refused: u32,
     letter: u8,
     number: u32,
     address: u32,
 }
 
-// What came: the answer, and the two lists with the eight places past the longest room.
-struct Seen {
-    answer: Answer,
-    source: [u8; 40],
-    target: [u8; 40],
+// What a setup has beside its string and its list.
+struct Numbers {
+    region: u8,
+    source: u32,
+    target: u32,
+    route: u8,
+    placing: u32,
+    outer: u32,
 }
 
 fn say(text: &[u8]) {
@@ -132,13 +137,17 @@ fn say_number(n: u32) {
 fn fresh() -> Line {
     Line {
         mode: TITLE,
-        values: [0u32; 160],
         next: 0,
         list: 0,
         number: 0,
-        symbols: [0u8; 32],
-        len: 0,
+        values: [0u32; 200],
     }
+}
+
+fn in_mode(l: Line, mode: u8) -> Line {
+    let mut r = l;
+    r.mode = mode;
+    r
 }
 
 // One value more.
@@ -146,7 +155,7 @@ fn put(l: Line, value: u32) -> Line {
     let mut r = l;
     let mut values = l.values;
     let at = l.next;
-    if at < 160 {
+    if at < 200 {
         values[at] = value;
         r.values = values;
         r.next = at + 1;
@@ -154,6 +163,7 @@ fn put(l: Line, value: u32) -> Line {
     r
 }
 
+// A number with one digit more.
 fn longer(n: u32, c: u8) -> u32 {
     if 400_000_000 <= n {
         return n;
@@ -164,7 +174,6 @@ fn longer(n: u32, c: u8) -> u32 {
     n * 10 + (c - 48) as u32
 }
 
-// One digit more of a number.
 fn with_digit(l: Line, c: u8) -> Line {
     let mut r = l;
     r.mode = NUMBER;
@@ -183,59 +192,44 @@ fn number_ended(l: Line) -> Line {
     r
 }
 
-fn list_begun(l: Line) -> Line {
+fn list_begun(l: Line, mode: u8) -> Line {
     let mut r = put(l, 0);
     r.list = l.next;
+    r.mode = mode;
     r
 }
 
-// How many values came since the list began; the next value is after all of its places.
+// How many values came since a list began.
+fn since(list: usize, next: usize) -> u32 {
+    if next <= list {
+        return 0;
+    }
+    if 200 < next {
+        return 0;
+    }
+    (next - list - 1) as u32
+}
+
+// The next value is after all of the list's places.
 fn list_ended(l: Line) -> Line {
     let mut r = l;
     let mut values = l.values;
     let at = l.list;
-    let next = l.next;
-    if next <= at {
-        return l;
+    if at < 166 {
+        values[at] = since(at, l.next);
+        r.values = values;
+        r.next = at + 34;
     }
-    if 126 <= at {
-        return l;
-    }
-    if 160 < next {
-        return l;
-    }
-    values[at] = (next - at - 1) as u32;
-    r.values = values;
-    r.next = at + 34;
-    r
-}
-
-fn with_symbol(l: Line, c: u8) -> Line {
-    let mut r = l;
-    let mut symbols = l.symbols;
-    let at = l.len;
-    if at < 32 {
-        symbols[at as usize] = c;
-        r.symbols = symbols;
-    }
-    if at < 255 {
-        r.len = at + 1;
-    }
-    r
-}
-
-fn in_mode(l: Line, mode: u8) -> Line {
-    let mut r = l;
-    r.mode = mode;
+    r.mode = VALUES;
     r
 }
 
 // A byte among the values that is no digit: " - [ ] and A to Z.
 fn with_sign(l: Line, c: u8) -> Line {
     match c {
-        34 => in_mode(l, STRING),
+        34 => list_begun(l, STRING),
         45 => put(l, NONE),
-        91 => list_begun(l),
+        91 => list_begun(l, VALUES),
         93 => list_ended(l),
         _ => {
             if 65 <= c && c <= 90 {
@@ -262,9 +256,9 @@ fn with_byte(l: Line, c: u8) -> Line {
         0 => { if c == 58 { in_mode(l, VALUES) } else { l } }
         3 => {
             if c == 34 {
-                in_mode(l, VALUES)
+                list_ended(l)
             } else {
-                with_symbol(l, c)
+                put(l, c as u32)
             }
         }
         _ => among_values(l, c),
@@ -277,23 +271,22 @@ fn byte(n: u32) -> u8 {
     if n < 256 { n as u8 } else { 255 }
 }
 
-fn value(l: Line, at: usize) -> u32 {
-    let values = l.values;
-    if at < 160 { values[at] } else { 0 }
+fn value(v: [u32; 200], at: usize) -> u32 {
+    if at < 200 { v[at] } else { 0 }
 }
 
 // Place i of the list at a place: 0 has its length.
-fn entry(l: Line, at: usize, i: usize) -> u32 {
-    if 126 <= at {
+fn entry(v: [u32; 200], at: usize, i: usize) -> u32 {
+    if 166 <= at {
         return 0;
     }
     if 34 <= i {
         return 0;
     }
-    value(l, at + i)
+    value(v, at + i)
 }
 
-// What a lent list holds at place i before anything is written: 100 at the first.
+// What stands past the types of a list: 0, or a pattern that is another in every place.
 fn pattern(first: u8, i: usize) -> u8 {
     if first == 0 {
         return 0;
@@ -304,40 +297,35 @@ fn pattern(first: u8, i: usize) -> u8 {
     100 + i as u8
 }
 
-// What a list of the line holds at place i: its type, and past its types 0 or what the pattern has.
-fn place(l: Line, at: usize, i: usize, past: u8) -> u8 {
-    let end = entry(l, at, 0) as usize;
+fn place(v: [u32; 200], at: usize, i: usize, past: u8) -> u8 {
+    let end = entry(v, at, 0) as usize;
     if 33 <= i {
         return past;
     }
     if end <= i {
         return past;
     }
-    byte(entry(l, at, i + 1))
+    byte(entry(v, at, i + 1))
 }
 
-// With a pattern past the types or, where the first of it is 0, with 0.
-fn put_places(l: Line, at: usize, first: u8, places: &mut [u8]) {
+fn put_places(v: [u32; 200], at: usize, first: u8, places: &mut [u8]) {
     let mut i: usize = 0;
     while i < places.len() {
-        places[i] = place(l, at, i, pattern(first, i));
+        places[i] = place(v, at, i, pattern(first, i));
         i += 1;
     }
 }
 
-fn list_at(l: Line, at: usize) -> Zone {
-    let mut types = [0u8; 32];
-    put_places(l, at, 0, &mut types);
-    Zone {
-        types,
-        len: byte(entry(l, at, 0)),
-    }
+fn places_32(v: [u32; 200], at: usize, first: u8) -> [u8; 32] {
+    let mut all = [0u8; 32];
+    put_places(v, at, first, &mut all);
+    all
 }
 
 // A lent list that holds the zone at a place of the values, and the pattern past it.
-fn lent(l: Line, at: usize) -> [u8; 40] {
+fn lent(v: [u32; 200], at: usize) -> [u8; 40] {
     let mut all = [0u8; 40];
-    put_places(l, at, 100, &mut all);
+    put_places(v, at, 100, &mut all);
     all
 }
 
@@ -390,86 +378,61 @@ fn plan_of(n: u32) -> Plan {
     plan
 }
 
-fn string_of(l: Line) -> Dialled {
-    let symbols = l.symbols;
+// 0 or the pattern past the string and the list.
+fn past(v: [u32; 200]) -> u8 {
+    if value(v, PLAN) == 74 { 100 } else { 0 }
+}
+
+fn string_sent(v: [u32; 200]) -> Dialled {
     Dialled {
-        symbols,
-        len: l.len,
+        symbols: places_32(v, DIALLED, past(v)),
+        len: byte(value(v, DIALLED)),
     }
 }
 
-// Junk in the last place of the string and of the list.
-fn with_junk(s: Setup) -> Setup {
-    let mut r = s;
-    let mut dialled = s.dialled;
-    let mut list = s.list;
-    let mut symbols = dialled.symbols;
-    let mut types = list.types;
-    symbols[31] = 120;
-    types[31] = 99;
-    dialled.symbols = symbols;
-    list.types = types;
-    r.dialled = dialled;
-    r.list = list;
+fn list_sent(v: [u32; 200]) -> Zone {
+    Zone {
+        types: places_32(v, LIST, past(v)),
+        len: byte(value(v, LIST)),
+    }
+}
+
+fn sent(v: [u32; 200]) -> Setup {
+    Setup {
+        region: region_of(value(v, REGION)),
+        source: value(v, SOURCE),
+        dialled: string_sent(v),
+        target: value(v, TARGET),
+        route: route_of(value(v, ROUTE)),
+        list: list_sent(v),
+        placing: placing_of(value(v, PLACING)),
+        outer: outer_of(value(v, OUTER)),
+    }
+}
+
+// What is expected beside a refusal: no box; a blank setup, in the source region and whole.
+fn blanked(v: [u32; 200]) -> [u32; 200] {
+    let mut r = v;
+    r[BOX] = 45;
+    r[SOURCE] = 0;
+    r[DIALLED] = 0;
+    r[ROUTE] = 87;
+    r[REGION_AFTER] = 83;
+    r[OUTER_AFTER] = NONE;
     r
 }
 
-fn sent(l: Line) -> Setup {
-    let s = Setup {
-        region: region_of(value(l, REGION)),
-        source: value(l, SOURCE),
-        dialled: string_of(l),
-        target: value(l, SENT_TARGET),
-        route: route_of(value(l, ROUTE)),
-        list: list_at(l, LIST),
-        placing: placing_of(value(l, PLACING)),
-        outer: outer_of(value(l, OUTER)),
-    };
-    if value(l, PLAN) == 74 {
-        with_junk(s)
-    } else {
-        s
+// The setup received has a list.
+fn wanted(v: [u32; 200]) -> [u32; 200] {
+    if value(v, REFUSED) != 0 {
+        return blanked(v);
     }
+    let mut r = v;
+    r[ROUTE] = 76;
+    r
 }
 
-// Beside a refusal: nothing in it.
-fn blank() -> Setup {
-    Setup {
-        region: Region::Source,
-        source: 0,
-        dialled: Dialled {
-            symbols: [0u8; 32],
-            len: 0,
-        },
-        target: 0,
-        route: Route::Whole,
-        list: Zone {
-            types: [0u8; 32],
-            len: 0,
-        },
-        placing: Placing::NoPlacing,
-        outer: Outer::NoOuter,
-    }
-}
-
-// The setup received: source and string as sent, a list, no placing type.
-fn wanted(l: Line) -> Setup {
-    if value(l, REFUSED) != 0 {
-        return blank();
-    }
-    Setup {
-        region: region_of(value(l, REGION_AFTER)),
-        source: value(l, SOURCE),
-        dialled: string_of(l),
-        target: value(l, TARGET_AFTER),
-        route: Route::Listed,
-        list: list_at(l, LEFT),
-        placing: Placing::NoPlacing,
-        outer: outer_of(value(l, OUTER_AFTER)),
-    }
-}
-
-// ---- whether an answer is the one expected
+// ---- an answer in numbers
 
 fn region_letter(r: Region) -> u8 {
     match r {
@@ -500,6 +463,81 @@ fn outer_number(o: Outer) -> u32 {
     }
 }
 
+fn numbers_of(s: Setup) -> Numbers {
+    let region = s.region;
+    let route = s.route;
+    let placing = s.placing;
+    let outer = s.outer;
+    Numbers {
+        region: region_letter(region),
+        source: s.source,
+        target: s.target,
+        route: route_letter(route),
+        placing: placing_number(placing),
+        outer: outer_number(outer),
+    }
+}
+
+fn routed(letter: u8, number: u32, address: u32) -> Reached {
+    Reached {
+        refused: 0,
+        letter,
+        number,
+        address,
+    }
+}
+
+fn of_callee(c: Callee) -> Reached {
+    match c {
+        Callee::Feature(t, a) => routed(70, t as u32, a),
+        Callee::Line(n, a) => routed(76, n as u32, a),
+        Callee::Trunk(n, a) => routed(84, n as u32, a),
+        Callee::Resource(n, a) => routed(82, n as u32, a),
+        Callee::Error(a) => routed(69, 0, a),
+    }
+}
+
+// 23 has the place 0, and no other refusal has one: else a number that nothing expects.
+fn placed(number: u8, place: Place) -> u32 {
+    match place {
+        Place::At(at) => { if at == 0 && number == 23 { 23 } else { 1000 } }
+        Place::Nowhere => { if number == 23 { 1000 } else { number as u32 } }
+    }
+}
+
+fn reached_by(o: Outcome) -> Reached {
+    match o {
+        Outcome::Routed(c) => of_callee(c),
+        Outcome::Refused(r) => Reached {
+            refused: placed(r.number(), r.place()),
+            letter: 45,
+            number: 0,
+            address: 0,
+        },
+    }
+}
+
+// ---- what came is written, and held against what was expected
+
+fn both(a: bool, b: bool) -> bool {
+    if a { b } else { false }
+}
+
+fn tell(got: u32, expected: u32) -> bool {
+    if got == NONE {
+        say(b" -");
+    } else {
+        say_number(got);
+    }
+    got == expected
+}
+
+fn tell_letter(got: u8, expected: u32) -> bool {
+    say(b" ");
+    say_byte(got);
+    got as u32 == expected
+}
+
 fn same_bytes(a: &[u8], b: &[u8]) -> bool {
     if a.len() != b.len() {
         return false;
@@ -514,171 +552,114 @@ fn same_bytes(a: &[u8], b: &[u8]) -> bool {
     true
 }
 
-fn same_string(a: Dialled, b: Dialled) -> bool {
-    let p = a.symbols;
-    let q = b.symbols;
-    if a.len != b.len {
-        return false;
-    }
-    same_bytes(&p, &q)
-}
-
-fn same_list(a: Zone, b: Zone) -> bool {
-    let p = a.types;
-    let q = b.types;
-    if a.len != b.len {
-        return false;
-    }
-    same_bytes(&p, &q)
-}
-
-fn same_route(a: Setup, b: Setup) -> bool {
-    let r = a.route;
-    let s = b.route;
-    let p = a.placing;
-    let q = b.placing;
-    let l = a.list;
-    let m = b.list;
-    if route_letter(r) != route_letter(s) {
-        return false;
-    }
-    if placing_number(p) != placing_number(q) {
-        return false;
-    }
-    same_list(l, m)
-}
-
-fn same_addresses(a: Setup, b: Setup) -> bool {
-    let r = a.region;
-    let s = b.region;
-    let o = a.outer;
-    let u = b.outer;
-    if region_letter(r) != region_letter(s) {
-        return false;
-    }
-    if outer_number(o) != outer_number(u) {
-        return false;
-    }
-    if a.source != b.source {
-        return false;
-    }
-    a.target == b.target
-}
-
-fn same_setup(a: Setup, b: Setup) -> bool {
-    let d = a.dialled;
-    let e = b.dialled;
-    if !same_addresses(a, b) {
-        return false;
-    }
-    if !same_string(d, e) {
-        return false;
-    }
-    same_route(a, b)
-}
-
-fn reached_box(letter: u8, number: u32, address: u32) -> Reached {
-    Reached {
-        letter,
-        number,
-        address,
+fn say_unless(t: u8, kept: u8) {
+    if t != kept {
+        say_number(t as u32);
     }
 }
 
-fn of_callee(c: Callee) -> Reached {
-    match c {
-        Callee::Feature(t, a) => reached_box(70, t as u32, a),
-        Callee::Line(n, a) => reached_box(76, n as u32, a),
-        Callee::Trunk(n, a) => reached_box(84, n as u32, a),
-        Callee::Resource(n, a) => reached_box(82, n as u32, a),
-        Callee::Error(a) => reached_box(69, 0, a),
+// The places that do not hold the pattern: of a lent list, those that were written.
+fn tell_places(got: &[u8], expected: &[u8], first: u8) -> bool {
+    say(b" [");
+    let mut i: usize = 0;
+    while i < got.len() {
+        say_unless(got[i], pattern(first, i));
+        i += 1;
     }
+    say(b" ]");
+    same_bytes(got, expected)
 }
 
-// No box beside a refusal.
-fn callee_of(o: Outcome) -> Reached {
-    match o {
-        Outcome::Routed(c) => of_callee(c),
-        Outcome::Refused(_) => reached_box(0, 0, 0),
-    }
+fn tell_box(v: [u32; 200], r: Reached) -> bool {
+    let refused = tell(r.refused, value(v, REFUSED));
+    let letter = tell_letter(r.letter, value(v, BOX));
+    let number = tell(r.number, value(v, BOX_NUMBER));
+    let address = tell(r.address, value(v, BOX_ADDRESS));
+    both(both(refused, letter), both(number, address))
 }
 
-fn number_of(o: Outcome) -> u8 {
-    match o {
-        Outcome::Routed(_) => 0,
-        Outcome::Refused(r) => r.number(),
-    }
-}
-
-// 23 is at place 0, and no other refusal has a place.
-fn place_right(o: Outcome) -> bool {
-    match o {
-        Outcome::Routed(_) => true,
-        Outcome::Refused(r) => match r.place() {
-            Place::At(at) => at == 0 && r.number() == 23,
-            Place::Nowhere => r.number() != 23,
-        },
-    }
-}
-
-fn box_right(l: Line, c: Reached) -> bool {
-    if c.letter as u32 != value(l, BOX) {
+// The source as it was sent, a list, and no placing type; or nothing of these.
+fn kept_right(v: [u32; 200], n: Numbers) -> bool {
+    if n.source != value(v, SOURCE) {
         return false;
     }
-    if c.number != value(l, BOX_NUMBER) {
+    if n.route as u32 != value(v, ROUTE) {
         return false;
     }
-    c.address == value(l, BOX_ADDRESS)
+    n.placing == NONE
 }
 
-fn outcome_right(l: Line, o: Outcome) -> bool {
-    if number_of(o) as u32 != value(l, REFUSED) {
-        return false;
-    }
-    if !place_right(o) {
-        return false;
-    }
-    box_right(l, callee_of(o))
+fn tell_numbers(v: [u32; 200], n: Numbers) -> bool {
+    say(b",");
+    let region = tell_letter(n.region, value(v, REGION_AFTER));
+    say(b" to");
+    let target = tell(n.target, value(v, TARGET_AFTER));
+    say(b", outer");
+    let outer = tell(n.outer, value(v, OUTER_AFTER));
+    both(both(region, target), both(outer, kept_right(v, n)))
 }
 
-fn answer_right(l: Line, a: Answer) -> bool {
+fn string_right(v: [u32; 200], d: Dialled) -> bool {
+    let got = d.symbols;
+    let expected = places_32(v, DIALLED, 0);
+    if d.len as u32 != value(v, DIALLED) {
+        return false;
+    }
+    same_bytes(&got, &expected)
+}
+
+fn tell_left(v: [u32; 200], z: Zone, left: u8) -> bool {
+    let got = z.types;
+    let expected = places_32(v, LEFT, 0);
+    say(b", left");
+    let types = tell_places(&got, &expected, 0);
+    both(types, both(z.len as u32 == value(v, LEFT), left == z.len))
+}
+
+fn tell_setup(v: [u32; 200], s: Setup, left: u8) -> bool {
+    let dialled = s.dialled;
+    let list = s.list;
+    let numbers = tell_numbers(v, numbers_of(s));
+    both(
+        both(numbers, string_right(v, dialled)),
+        tell_left(v, list, left),
+    )
+}
+
+fn tell_answer(v: [u32; 200], a: Answer) -> bool {
     let outcome = a.outcome;
     let setup = a.setup;
-    if a.left as u32 != entry(l, LEFT, 0) {
-        return false;
-    }
-    if !outcome_right(l, outcome) {
-        return false;
-    }
-    same_setup(setup, wanted(l))
+    let reached = tell_box(v, reached_by(outcome));
+    both(reached, tell_setup(v, setup, a.left))
 }
 
-fn all_right(l: Line, s: Seen) -> bool {
-    let source = s.source;
-    let target = s.target;
-    let answer = s.answer;
-    let source_wanted = lent(l, SOURCE_ZONE);
-    let target_wanted = lent(l, TARGET_ZONE);
-    if !same_bytes(&source, &source_wanted) {
-        return false;
-    }
-    if !same_bytes(&target, &target_wanted) {
-        return false;
-    }
-    answer_right(l, answer)
+fn tell_lent(v: [u32; 200], at: usize, got: [u8; 40]) -> bool {
+    let expected = lent(v, at);
+    tell_places(&got, &expected, 100)
 }
 
 // ---- a trial
 
-// With the first places of each list as its room.
-fn asked(l: Line, source: &mut [u8], target: &mut [u8]) -> Answer {
-    let plan = plan_of(value(l, PLAN));
-    let out = sent(l);
-    let later = value(l, LATER);
+fn alone(v: [u32; 200], source: &mut [u8], target: &mut [u8]) -> Answer {
+    routing::route(plan_of(value(v, PLAN)), sent(v), source, target)
+}
+
+fn unless(v: [u32; 200], later: u32, source: &mut [u8], target: &mut [u8]) -> Answer {
+    routing::route_unless(
+        plan_of(value(v, PLAN)),
+        sent(v),
+        later_of(later),
+        source,
+        target,
+    )
+}
+
+fn asked(v: [u32; 200], source: &mut [u8], target: &mut [u8]) -> Answer {
+    let later = value(v, LATER);
     if later == NONE {
-        routing::route(plan, out, source, target)
+        alone(v, source, target)
     } else {
-        routing::route_unless(plan, out, later_of(later), source, target)
+        unless(v, later, source, target)
     }
 }
 
@@ -688,100 +669,23 @@ fn room(n: u32) -> usize
     if n < 41 { n as usize } else { 40 }
 }
 
-fn trial(l: Line) -> Seen {
-    let mut source = lent(l, NOWHERE);
-    let mut target = lent(l, NOWHERE);
-    let n = room(value(l, SOURCE_ROOM));
-    let m = room(value(l, TARGET_ROOM));
-    let answer = asked(l, &mut source[..n], &mut target[..m]);
-    Seen {
-        answer,
-        source,
-        target,
-    }
-}
-
-// ---- what is written
-
-fn say_unless(t: u8, kept: u8) {
-    if t != kept {
-        say_number(t as u32);
-    }
-}
-
-// The places that do not hold the pattern: of a lent list, those that were written.
-fn say_places(first: u8, places: &[u8]) {
-    say(b" [");
-    let mut i: usize = 0;
-    while i < places.len() {
-        say_unless(places[i], pattern(first, i));
-        i += 1;
-    }
-    say(b" ]");
-}
-
-fn say_none_or(n: u32) {
-    if n == NONE {
-        say(b" -");
-    } else {
-        say_number(n);
-    }
-}
-
-fn say_letter(c: u8) {
-    say(b" ");
-    say_byte(c);
-}
-
-fn say_box(c: Reached) {
-    say_letter(c.letter);
-    say_number(c.number);
-    say_number(c.address);
-}
-
-fn say_received(s: Setup) {
-    let region = s.region;
-    let list = s.list;
-    let types = list.types;
-    let outer = s.outer;
-    say(b",");
-    say_letter(region_letter(region));
-    say(b" to");
-    say_number(s.target);
-    say(b", left");
-    say_places(0, &types);
-    say(b", outer");
-    say_none_or(outer_number(outer));
-}
-
-fn say_seen(s: Seen) {
-    let a = s.answer;
-    let outcome = a.outcome;
-    let setup = a.setup;
-    let source = s.source;
-    let target = s.target;
-    let number = number_of(outcome);
-    say(b"; got");
-    say_number(number as u32);
-    if number == 0 {
-        say_box(callee_of(outcome));
-        say_received(setup);
-        say(b", zones");
-        say_places(100, &source);
-        say_places(100, &target);
-    }
+// The first places of each list are its room.
+fn trial(v: [u32; 200], w: [u32; 200]) -> bool {
+    let mut source = lent(v, NOWHERE);
+    let mut target = lent(v, NOWHERE);
+    let n = room(value(v, SOURCE_ROOM));
+    let m = room(value(v, TARGET_ROOM));
+    let answer = asked(v, &mut source[..n], &mut target[..m]);
+    let right = tell_answer(w, answer);
+    say(b", zones");
+    let source_right = tell_lent(w, SOURCE_ZONE, source);
+    both(right, both(source_right, tell_lent(w, TARGET_ZONE, target)))
 }
 
 // ---- all lines
 
-fn next_line(t: State) -> State {
-    let mut r = t;
-    r.line = fresh();
-    r
-}
-
 fn counted(t: State, right: bool) -> State {
-    let mut r = next_line(t);
+    let mut r = t;
     r.tried = std::num::wrapping_add_u32(t.tried, 1);
     if right {
         say(b", right\n");
@@ -789,19 +693,22 @@ fn counted(t: State, right: bool) -> State {
     } else {
         say(b", WRONG\n");
     }
+    r.line = fresh();
     r
 }
 
 fn line_ended(t: State) -> State {
     let line = t.line;
-    let l = number_ended(line);
-    if l.mode == TITLE {
+    if line.mode == TITLE {
         say(b"\n");
-        return next_line(t);
+        let mut r = t;
+        r.line = fresh();
+        return r;
     }
-    let s = trial(l);
-    say_seen(s);
-    counted(t, all_right(l, s))
+    let whole = number_ended(line);
+    let v = whole.values;
+    say(b"; got");
+    counted(t, trial(v, wanted(v)))
 }
 
 fn with_next(t: State, c: u8) -> State {

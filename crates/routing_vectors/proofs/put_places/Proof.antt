@@ -7,10 +7,10 @@ use Rattle.routing_vectors.proofs.put_places.Statement.{statement}
 use Rattle.routing_vectors.proofs.put_places.Tie as tie
 
 abbrev Inv-loop : tie.InvT-loop
-Inv-loop l at first places₀ i₀ places i = (i ≤ length places₀) × (length places ≡ length places₀)
+Inv-loop v at first places₀ i₀ places i = (i ≤ length places₀) × (length places ≡ length places₀)
 
 abbrev μ-loop : tie.MeasureT-loop
-μ-loop l at first places₀ i₀ places i = length places₀ - i
+μ-loop v at first places₀ i₀ places i = length places₀ - i
 
 loop-holds : tie.Need-loop-holds Inv-loop μ-loop
 loop-holds c = search needs

@@ -43,6 +43,27 @@ slice-aggregate-asked-2 c =
 asked-requires : tie.Need-asked-requires
 asked-requires c κs = search needs
 
+tell-answer-requires : tie.Need-tell-answer-requires
+tell-answer-requires c κs = search needs
+
+slice-aggregate-say : tie.Need-slice-aggregate-say
+slice-aggregate-say c = search needs
+
+say-requires : tie.Need-say-requires
+say-requires c κs = search needs
+
+tell-lent-requires : tie.Need-tell-lent-requires
+tell-lent-requires c κs = search needs
+
+tell-lent-requires-2 : tie.Need-tell-lent-requires-2
+tell-lent-requires-2 c κs = search needs
+
+both-requires : tie.Need-both-requires
+both-requires c κs = search needs
+
+both-requires-2 : tie.Need-both-requires-2
+both-requires-2 c κs = search needs
+
 returns : tie.Need-returns
 returns c = search needs
 
@@ -61,4 +82,11 @@ trial-spec =
     array-borrow-prefix-target
     slice-aggregate-asked-2
     asked-requires
+    tell-answer-requires
+    slice-aggregate-say
+    say-requires
+    tell-lent-requires
+    tell-lent-requires-2
+    both-requires
+    both-requires-2
     returns)

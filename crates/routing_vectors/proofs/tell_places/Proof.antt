@@ -1,15 +1,15 @@
--- `routing_vectors::say_places` meets its contract. Assumes nothing.
+-- `routing_vectors::tell_places` meets its contract. Assumes nothing.
 use Prim.Native.Nat.{_≤_, _-_}
 use lib.ListN.{length}
 use borrow.Author.Needs.{needs}
-use Rattle.routing_vectors.proofs.say_places.Statement.{statement}
-use Rattle.routing_vectors.proofs.say_places.Tie as tie
+use Rattle.routing_vectors.proofs.tell_places.Statement.{statement}
+use Rattle.routing_vectors.proofs.tell_places.Tie as tie
 
 abbrev Inv-loop : tie.InvT-loop
-Inv-loop first places i₀ t5 i = i ≤ length places
+Inv-loop got expected first i₀ t6 i = i ≤ length got
 
 abbrev μ-loop : tie.MeasureT-loop
-μ-loop first places i₀ t5 i = length places - i
+μ-loop got expected first i₀ t6 i = length got - i
 
 slice-aggregate-say : tie.Need-slice-aggregate-say Inv-loop μ-loop
 slice-aggregate-say c = search needs
@@ -44,11 +44,14 @@ slice-aggregate-say-2 c = search needs
 say-requires-2 : tie.Need-say-requires-2 Inv-loop μ-loop
 say-requires-2 c κs = search needs
 
+same-bytes-requires : tie.Need-same-bytes-requires Inv-loop μ-loop
+same-bytes-requires c κs = search needs
+
 returns : tie.Need-returns Inv-loop μ-loop
 returns c = search needs
 
-pub say-places-spec : {M : Type 1} → statement M
-say-places-spec =
+pub tell-places-spec : {M : Type 1} → statement M
+tell-places-spec =
     tie.close
     (tie.spec
     Inv-loop
@@ -64,4 +67,5 @@ say-places-spec =
     loop-again
     slice-aggregate-say-2
     say-requires-2
+    same-bytes-requires
     returns)
