@@ -144,12 +144,6 @@ fn fresh() -> Line {
     }
 }
 
-fn in_mode(l: Line, mode: u8) -> Line {
-    let mut r = l;
-    r.mode = mode;
-    r
-}
-
 // One value more.
 fn put(l: Line, value: u32) -> Line {
     let mut r = l;
@@ -172,13 +166,6 @@ fn longer(n: u32, c: u8) -> u32 {
         return n;
     }
     n * 10 + (c - 48) as u32
-}
-
-fn with_digit(l: Line, c: u8) -> Line {
-    let mut r = l;
-    r.mode = NUMBER;
-    r.number = longer(l.number, c);
-    r
 }
 
 // A number that was being read is a value.
@@ -243,7 +230,10 @@ fn with_sign(l: Line, c: u8) -> Line {
 
 fn among_values(l: Line, c: u8) -> Line {
     if 48 <= c && c <= 57 {
-        with_digit(l, c)
+        let mut r = l;
+        r.mode = NUMBER;
+        r.number = longer(l.number, c);
+        r
     } else {
         with_sign(number_ended(l), c)
     }
@@ -253,7 +243,13 @@ fn among_values(l: Line, c: u8) -> Line {
 fn with_byte(l: Line, c: u8) -> Line {
     let mode = l.mode;
     match mode {
-        0 => { if c == 58 { in_mode(l, VALUES) } else { l } }
+        0 => {
+            let mut r = l;
+            if c == 58 {
+                r.mode = VALUES;
+            }
+            r
+        }
         3 => {
             if c == 34 {
                 list_ended(l)
@@ -329,38 +325,6 @@ fn lent(v: [u32; 200], at: usize) -> [u8; 40] {
     all
 }
 
-fn region_of(n: u32) -> Region {
-    if n == 83 {
-        Region::Source
-    } else {
-        Region::Target
-    }
-}
-
-fn route_of(n: u32) -> Route {
-    match n {
-        87 => Route::Whole,
-        83 => Route::Suffix,
-        _ => Route::Listed,
-    }
-}
-
-fn placing_of(n: u32) -> Placing {
-    if n == NONE {
-        Placing::NoPlacing
-    } else {
-        Placing::PlacedBy(byte(n))
-    }
-}
-
-fn outer_of(n: u32) -> Outer {
-    if n == NONE {
-        Outer::NoOuter
-    } else {
-        Outer::OuterAt(n)
-    }
-}
-
 fn later_of(n: u32) -> Later {
     match n {
         10 => Later::Refuse(Refusal::NoSuchCall),
@@ -378,90 +342,63 @@ fn plan_of(n: u32) -> Plan {
     plan
 }
 
-// 0 or the pattern past the string and the list.
-fn past(v: [u32; 200]) -> u8 {
-    if value(v, PLAN) == 74 { 100 } else { 0 }
-}
-
-fn string_sent(v: [u32; 200]) -> Dialled {
-    Dialled {
-        symbols: places_32(v, DIALLED, past(v)),
-        len: byte(value(v, DIALLED)),
-    }
-}
-
-fn list_sent(v: [u32; 200]) -> Zone {
-    Zone {
-        types: places_32(v, LIST, past(v)),
-        len: byte(value(v, LIST)),
-    }
-}
-
+// With junk past its string and its list where the plan's letter is J.
 fn sent(v: [u32; 200]) -> Setup {
+    let past = if value(v, PLAN) == 74 { 100 } else { 0 };
+    let region = if value(v, REGION) == 83 {
+        Region::Source
+    } else {
+        Region::Target
+    };
+    let route = match value(v, ROUTE) {
+        87 => Route::Whole,
+        83 => Route::Suffix,
+        _ => Route::Listed,
+    };
+    let placing = if value(v, PLACING) == NONE {
+        Placing::NoPlacing
+    } else {
+        Placing::PlacedBy(byte(value(v, PLACING)))
+    };
+    let outer = if value(v, OUTER) == NONE {
+        Outer::NoOuter
+    } else {
+        Outer::OuterAt(value(v, OUTER))
+    };
     Setup {
-        region: region_of(value(v, REGION)),
+        region,
         source: value(v, SOURCE),
-        dialled: string_sent(v),
+        dialled: Dialled {
+            symbols: places_32(v, DIALLED, past),
+            len: byte(value(v, DIALLED)),
+        },
         target: value(v, TARGET),
-        route: route_of(value(v, ROUTE)),
-        list: list_sent(v),
-        placing: placing_of(value(v, PLACING)),
-        outer: outer_of(value(v, OUTER)),
+        route,
+        list: Zone {
+            types: places_32(v, LIST, past),
+            len: byte(value(v, LIST)),
+        },
+        placing,
+        outer,
     }
 }
 
-// What is expected beside a refusal: no box; a blank setup, in the source region and whole.
-fn blanked(v: [u32; 200]) -> [u32; 200] {
-    let mut r = v;
-    r[BOX] = 45;
-    r[SOURCE] = 0;
-    r[DIALLED] = 0;
-    r[ROUTE] = 87;
-    r[REGION_AFTER] = 83;
-    r[OUTER_AFTER] = NONE;
-    r
-}
-
-// The setup received has a list.
+// The setup received has a list. Beside a refusal there is no box, and a blank setup: in the source region and whole.
 fn wanted(v: [u32; 200]) -> [u32; 200] {
-    if value(v, REFUSED) != 0 {
-        return blanked(v);
-    }
     let mut r = v;
     r[ROUTE] = 76;
+    if value(v, REFUSED) != 0 {
+        r[BOX] = 45;
+        r[SOURCE] = 0;
+        r[DIALLED] = 0;
+        r[ROUTE] = 87;
+        r[REGION_AFTER] = 83;
+        r[OUTER_AFTER] = NONE;
+    }
     r
 }
 
 // ---- an answer in numbers
-
-fn region_letter(r: Region) -> u8 {
-    match r {
-        Region::Source => 83,
-        Region::Target => 84,
-    }
-}
-
-fn route_letter(r: Route) -> u8 {
-    match r {
-        Route::Whole => 87,
-        Route::Suffix => 83,
-        Route::Listed => 76,
-    }
-}
-
-fn placing_number(p: Placing) -> u32 {
-    match p {
-        Placing::NoPlacing => NONE,
-        Placing::PlacedBy(t) => t as u32,
-    }
-}
-
-fn outer_number(o: Outer) -> u32 {
-    match o {
-        Outer::NoOuter => NONE,
-        Outer::OuterAt(a) => a,
-    }
-}
 
 fn numbers_of(s: Setup) -> Numbers {
     let region = s.region;
@@ -469,12 +406,25 @@ fn numbers_of(s: Setup) -> Numbers {
     let placing = s.placing;
     let outer = s.outer;
     Numbers {
-        region: region_letter(region),
+        region: match region {
+            Region::Source => 83,
+            Region::Target => 84,
+        },
         source: s.source,
         target: s.target,
-        route: route_letter(route),
-        placing: placing_number(placing),
-        outer: outer_number(outer),
+        route: match route {
+            Route::Whole => 87,
+            Route::Suffix => 83,
+            Route::Listed => 76,
+        },
+        placing: match placing {
+            Placing::NoPlacing => NONE,
+            Placing::PlacedBy(t) => t as u32,
+        },
+        outer: match outer {
+            Outer::NoOuter => NONE,
+            Outer::OuterAt(a) => a,
+        },
     }
 }
 
@@ -578,17 +528,7 @@ fn tell_box(v: [u32; 200], r: Reached) -> bool {
     both(both(refused, letter), both(number, address))
 }
 
-// The source as it was sent, a list, and no placing type; or nothing of these.
-fn kept_right(v: [u32; 200], n: Numbers) -> bool {
-    if n.source != value(v, SOURCE) {
-        return false;
-    }
-    if n.route as u32 != value(v, ROUTE) {
-        return false;
-    }
-    n.placing == NONE
-}
-
+// The source is as it was sent, and there is no placing type.
 fn tell_numbers(v: [u32; 200], n: Numbers) -> bool {
     say(b",");
     let region = tell_letter(n.region, value(v, REGION_AFTER));
@@ -596,7 +536,14 @@ fn tell_numbers(v: [u32; 200], n: Numbers) -> bool {
     let target = tell(n.target, value(v, TARGET_AFTER));
     say(b", outer");
     let outer = tell(n.outer, value(v, OUTER_AFTER));
-    both(both(region, target), both(outer, kept_right(v, n)))
+    let kept = both(
+        n.source == value(v, SOURCE),
+        n.route as u32 == value(v, ROUTE),
+    );
+    both(
+        both(region, target),
+        both(outer, both(kept, n.placing == NONE)),
+    )
 }
 
 fn string_right(v: [u32; 200], d: Dialled) -> bool {
@@ -684,31 +631,24 @@ fn trial(v: [u32; 200], w: [u32; 200]) -> bool {
 
 // ---- all lines
 
-fn counted(t: State, right: bool) -> State {
+fn line_ended(t: State) -> State {
     let mut r = t;
+    let line = t.line;
+    r.line = fresh();
+    if line.mode == TITLE {
+        say(b"\n");
+        return r;
+    }
+    let v = number_ended(line).values;
+    say(b"; got");
     r.tried = std::num::wrapping_add_u32(t.tried, 1);
-    if right {
+    if trial(v, wanted(v)) {
         say(b", right\n");
         r.right = std::num::wrapping_add_u32(t.right, 1);
     } else {
         say(b", WRONG\n");
     }
-    r.line = fresh();
     r
-}
-
-fn line_ended(t: State) -> State {
-    let line = t.line;
-    if line.mode == TITLE {
-        say(b"\n");
-        let mut r = t;
-        r.line = fresh();
-        return r;
-    }
-    let whole = number_ended(line);
-    let v = whole.values;
-    say(b"; got");
-    counted(t, trial(v, wanted(v)))
 }
 
 fn with_next(t: State, c: u8) -> State {
