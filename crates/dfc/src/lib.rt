@@ -5,6 +5,7 @@ ghost use lib.ListN.{length};
 ghost use Rattle.setupbytes.specs.Codec.{setupBytes};
 ghost use Rattle.dfc.specs.Said.{placeNumber, accepted, refusal, regionOf, makerOf};
 ghost use Rattle.dfc.specs.Files.{checked, writtenSaid, rewritten, roomRewritten, zoned, typesZoned, madeSaid, madeRoom, making, roomMaking, newOver, continuedOver, reversedOver};
+ghost use Rattle.dfc.specs.Routes.{boxKind, boxNumber, boxAddress, routedTo, notRouted, routedSaid, routedRoom, routed, roomRouted, sourceRouted, targetRouted};
 use making::Maker;
 use making::Outcome;
 use plan::Region;
@@ -12,6 +13,7 @@ use plan::Verdict;
 use planwrite::Written;
 use refusal::Place;
 use refusal::Refusal;
+use routing::Callee;
 use zone::Zone;
 
 // Number 0 and the operation's value; or document 01's number of a refusal and its place.
@@ -249,5 +251,137 @@ pub extern "C" fn dfc_reversed(
             handed(m, room)
         }
         Verdict::Refused(r) => refused(r),
+    }
+}
+
+// ---- routing
+
+// Number 0, how many types are left, and the callee box; or the refusal's number and place, and zeros.
+#[repr(C)]
+pub struct Routed {
+    pub number: u64,
+    pub value: u64,
+    pub kind: u64,
+    pub box_number: u64,
+    pub address: u64,
+}
+
+fn box_kind(c: Callee) -> u64
+    ensures { λ r. ⌜ r ≡ boxKind c ⌝ }
+{
+    match c {
+        Callee::Feature(_, _) => 0,
+        Callee::Line(_, _) => 1,
+        Callee::Trunk(_, _) => 2,
+        Callee::Resource(_, _) => 3,
+        Callee::Error(_) => 4,
+    }
+}
+
+fn wide_8(n: u8) -> u64
+    ensures { λ r. ⌜ r ≡ n ⌝ }
+{
+    n as u64
+}
+
+fn wide_16(n: u16) -> u64
+    ensures { λ r. ⌜ r ≡ n ⌝ }
+{
+    n as u64
+}
+
+fn wide_32(n: u32) -> u64
+    ensures { λ r. ⌜ r ≡ n ⌝ }
+{
+    n as u64
+}
+
+fn box_number(c: Callee) -> u64
+    ensures { λ r. ⌜ r ≡ boxNumber c ⌝ }
+{
+    match c {
+        Callee::Feature(t, _) => wide_8(t),
+        Callee::Line(n, _) => wide_16(n),
+        Callee::Trunk(n, _) => wide_16(n),
+        Callee::Resource(n, _) => wide_16(n),
+        Callee::Error(_) => 0,
+    }
+}
+
+fn box_address(c: Callee) -> u64
+    ensures { λ r. ⌜ r ≡ boxAddress c ⌝ }
+{
+    match c {
+        Callee::Feature(_, a) => wide_32(a),
+        Callee::Line(_, a) => wide_32(a),
+        Callee::Trunk(_, a) => wide_32(a),
+        Callee::Resource(_, a) => wide_32(a),
+        Callee::Error(a) => wide_32(a),
+    }
+}
+
+fn routed_to(c: Callee, left: u8) -> Routed
+    ensures { λ r. ⌜ r ≡ routedTo c left ⌝ }
+{
+    Routed {
+        number: 0,
+        value: wide_8(left),
+        kind: box_kind(c),
+        box_number: box_number(c),
+        address: box_address(c),
+    }
+}
+
+fn not_routed(r: Refusal) -> Routed
+    ensures { λ a. ⌜ a ≡ notRouted r ⌝ }
+{
+    Routed {
+        number: r.number() as u64,
+        value: place_number(r.place()),
+        kind: 0,
+        box_number: 0,
+        address: 0,
+    }
+}
+
+// What routing gave: the setup received into the room, where the setup was routed.
+fn received(a: routing::Answer, room: &mut [u8; 110]) -> Routed
+    ensures { λ r. ⌜ (r ≡ routedSaid (a .outcome) (a .left)) × (now (room .exit) ≡ routedRoom (a .outcome) (a .setup) (now (room .entry))) ⌝ }
+{
+    let outcome = a.outcome;
+    let setup = a.setup;
+    match outcome {
+        routing::Outcome::Routed(c) => {
+            *room = setupbytes::setup_bytes(setup);
+            routed_to(c, a.left)
+        }
+        routing::Outcome::Refused(r) => not_routed(r),
+    }
+}
+
+// A setup routed: the callee box, and the setup that it receives, in the room; the two zones in the two lists.
+#[no_mangle]
+pub extern "C" fn dfc_route(
+    file: &[u8],
+    setup: &[u8],
+    source_list: &mut [u8],
+    target_list: &mut [u8],
+    room: &mut [u8; 110],
+) -> Routed
+    ensures { λ r. ⌜ (r ≡ routed (now (file .entry)) (now (setup .entry)) (length (now («source_list» .entry))) (length (now («target_list» .entry))))
+        × (now («source_list» .exit) ≡ sourceRouted (now (file .entry)) (now (setup .entry)) (length (now («source_list» .entry))) (length (now («target_list» .entry))) (now («source_list» .entry)))
+        × (now («target_list» .exit) ≡ targetRouted (now (file .entry)) (now (setup .entry)) (length (now («source_list» .entry))) (length (now («target_list» .entry))) (now («target_list» .entry)))
+        × (now (room .exit) ≡ roomRouted (now (file .entry)) (now (setup .entry)) (length (now («source_list» .entry))) (length (now («target_list» .entry))) (now (room .entry))) ⌝ }
+{
+    let reading = planread::read(file);
+    let verdict = reading.answer;
+    let plan = reading.plan;
+    match verdict {
+        Verdict::Sound => {
+            let out = setupbytes::setup_in(setup);
+            let a = routing::route(plan, out, source_list, target_list);
+            received(a, room)
+        }
+        Verdict::Refused(r) => not_routed(r),
     }
 }
