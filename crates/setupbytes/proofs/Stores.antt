@@ -51,7 +51,7 @@ taken-done b places at =
 
 -- ---- the parts of a setup put one after the other
 
-with-header : (tag m : ℕ) (places : List ℕ) → tag < 256 → length places ≡ 32 → field tag (m ∷ places) ≡ tag ∷ 0 ∷ 33 ∷ m ∷ places
+pub with-header : (tag m : ℕ) (places : List ℕ) → tag < 256 → length places ≡ 32 → field tag (m ∷ places) ≡ tag ∷ 0 ∷ 33 ∷ m ∷ places
 unfolding field high
 with-header tag m places h long =
     let low : tag % 256 ≡ tag = omega arith in
