@@ -82,11 +82,10 @@ SIDE(peer)
 /* ---- random inputs */
 
 static uint32_t some_address(rng *r) {
-    switch (below(r, 8)) {
+    switch (below(r, 12)) {
     case 0: return 0;
     case 1: return below(r, 1000);
-    case 2: return 999999998u + below(r, 4);
-    case 3: return (uint32_t)(rnd(r) >> 32);
+    case 2: return chance(r, 2) ? 999999998u + below(r, 4) : (uint32_t)(rnd(r) >> 32);
     default: return p.count ? p.sub[below(r, p.count)].address : 200;
     }
 }
@@ -94,14 +93,16 @@ static uint32_t some_address(rng *r) {
 static size_t some_string(rng *r, uint8_t *s) {
     static const char symbols[] = "0123456789*#";
     size_t n = 0;
-    if (chance(r, 3)) return 0;
-    if (chance(r, 3)) n = (size_t)sprintf((char *)s, "%s%u", chance(r, 2) ? "*21" : "", some_address(r));
+    if (chance(r, 2)) return 0;
+    if (chance(r, 2)) n = (size_t)sprintf((char *)s, "%s%u", chance(r, 2) ? "*21" : "", some_address(r));
     else {
-        n = chance(r, 4) ? below(r, 37) : below(r, 12);
-        for (size_t k = 0; k < n; k++) s[k] = (uint8_t)symbols[below(r, chance(r, 3) ? 12 : 10)];
+        uint32_t kinds = chance(r, 3) ? 12 : 10;
+        n = chance(r, 4) ? below(r, 37) : chance(r, 2) ? 8 + below(r, 4) : below(r, 12);
+        for (size_t k = 0; k < n; k++) s[k] = (uint8_t)symbols[below(r, kinds)];
+        if (n && chance(r, 4)) s[0] = '0';
         if (n && chance(r, 4)) s[0] = '*';
     }
-    if (n && chance(r, 8)) s[below(r, (uint32_t)n)] = (uint8_t)rnd(r);
+    if (n && chance(r, 16)) s[below(r, (uint32_t)n)] = (uint8_t)rnd(r);
     return n;
 }
 
@@ -158,7 +159,7 @@ static size_t some_setup(rng *r, uint8_t *b) {
 static void some_input(rng *r, input *i) {
     memset(i, 0, sizeof *i);
     uint32_t k = below(r, 16);
-    i->op = k < 1 ? CHECK : k < 2 ? WRITE : k < 5 ? ZONE : k < 8 ? NEW : k < 10 ? CONTINUED : k < 12 ? REVERSED : ROUTE;
+    i->op = k < 1 ? CHECK : k < 2 ? WRITE : k < 4 ? ZONE : k < 7 ? NEW : k < 10 ? CONTINUED : k < 12 ? REVERSED : ROUTE;
     i->region = (uint8_t)(chance(r, 8) ? rnd(r) : below(r, 2));
     i->kind = (uint8_t)(chance(r, 8) ? below(r, 7) : i->op == NEW ? below(r, 3) : 0);
     i->type = (uint8_t)below(r, chance(r, 8) ? 256 : 32);
@@ -167,6 +168,11 @@ static void some_input(rng *r, input *i) {
     else if (p.set[0] && !chance(r, 8))
         while (!(p.set[0] >> i->type % 32 & 1)) i->type = (uint8_t)((i->type + 1) % 32);
     i->address = some_address(r);
+    if (i->op == NEW && i->kind && p.count && !chance(r, 8)) { /* somebody of that kind, if there is one */
+        uint32_t k = below(r, p.count);
+        for (unsigned n = 0; n < p.count && p.sub[k].kind != i->kind; n++) k = (k + 1) % p.count;
+        i->address = p.sub[k].address;
+    }
     i->source = chance(r, 2) ? 0 : some_address(r);
     i->target = chance(r, 2) ? 0 : some_address(r);
     i->string_size = some_string(r, i->string);
@@ -197,13 +203,17 @@ int main(int argc, char **argv) {
     static output ours, peers;
     for (unsigned left = 0; number < cases; number++, left--) {
         input i;
-        if (left == 0) some_plan(&r), left = 24;
+        if (left == 0) some_plan(&r), left = 16;
         some_input(&r, &i);
-        for (size_t k = 0; k < sizeof ours; k += 8) { uint64_t x = rnd(&r); memcpy((uint8_t *)&ours + k, &x, sizeof ours - k < 8 ? sizeof ours - k : 8); }
-        memcpy(&peers, &ours, sizeof ours);
+        /* all that may be lent is junk before; the long room only where it is lent */
+        size_t from = i.op == WRITE ? 0 : offsetof(output, made);
+        for (size_t k = from; k < sizeof ours; k++) ((uint8_t *)&ours)[k] = (uint8_t)(rnd(&r) >> 40);
+        memcpy((uint8_t *)&peers + from, (uint8_t *)&ours + from, sizeof ours - from);
+        ours.said = peers.said = (dfc_routed){99, 99, 99, 99, 99};
         dfc_run(&i, &ours);
         peer_run(&i, &peers);
-        if (memcmp(&ours, &peers, sizeof ours) != 0) return differ(&i, &ours, &peers);
+        if (memcmp(&ours.said, &peers.said, sizeof ours.said) != 0 || memcmp((uint8_t *)&ours + from, (uint8_t *)&peers + from, sizeof ours - from) != 0)
+            return differ(&i, &ours, &peers);
         done[i.op]++;
         if (ours.said.number == 0) {
             accepted[i.op]++;

@@ -126,8 +126,15 @@ static inline void break_plan(rng *r, any_plan *p) {
     case 0: p->set[below(r, 5)] ^= (uint32_t)1 << below(r, 32); break;
     case 1:
     case 2: p->row[below(r, 2)][below(r, 32)] ^= (uint32_t)1 << below(r, 32); break;
-    case 3: s->source ^= (uint32_t)1 << below(r, 32); break;
-    case 4: s->target ^= (uint32_t)1 << below(r, 32); break;
+    case 3:
+    case 4: {
+        uint32_t t = below(r, 32); /* half of the time a reversible type */
+        if (p->set[2] && chance(r, 2))
+            while (!(p->set[2] >> t & 1)) t = (t + 1) % 32;
+        if (chance(r, 2)) s->source ^= (uint32_t)1 << t;
+        else s->target ^= (uint32_t)1 << t;
+        break;
+    }
     case 5: s->kind = (uint8_t)below(r, 6); break;
     case 6: s->boxes = (uint8_t)below(r, 5); break;
     case 7: s->box[below(r, 4)] = o->box[below(r, 4)]; break;

@@ -204,14 +204,8 @@ pub extern "C" fn dfc_continued(
     match verdict {
         Verdict::Sound => {
             let s = setupbytes::setup_in(setup);
-            let m = making::continued_setup(
-                plan,
-                maker_of(kind, of_type, address),
-                s,
-                source,
-                string,
-                target,
-            );
+            let maker = maker_of(kind, of_type, address);
+            let m = making::continued_setup(plan, maker, s, source, string, target);
             handed(m, room)
         }
         Verdict::Refused(r) => refused(r),
@@ -240,14 +234,8 @@ pub extern "C" fn dfc_reversed(
     match verdict {
         Verdict::Sound => {
             let s = setupbytes::setup_in(setup);
-            let m = making::reversed_setup(
-                plan,
-                maker_of(kind, of_type, address),
-                s,
-                source,
-                string,
-                target,
-            );
+            let maker = maker_of(kind, of_type, address);
+            let m = making::reversed_setup(plan, maker, s, source, string, target);
             handed(m, room)
         }
         Verdict::Refused(r) => refused(r),
