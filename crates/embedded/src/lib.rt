@@ -76,7 +76,7 @@ fn skipped(s: &[u8]) -> usize
 }
 
 // The address that 1 to 9 digits write.
-fn written(s: &[u8]) -> Dials
+pub fn written(s: &[u8]) -> Dials
     ensures { λ r. ⌜ r ≡ dialled (writesAddress (now (s .entry))) (numberFrom 0 (now (s .entry))) ⌝ }
 {
     if s.len() < 1 {

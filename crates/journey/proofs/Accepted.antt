@@ -28,7 +28,7 @@ use Rattle.setup.specs.declared.Setup.{Setup}
 use Rattle.setup.specs.declared.Route.{Route}
 use Rattle.setup.specs.declared.Route.the-variants.{Whole, Suffix, Listed}
 use Rattle.setup.specs.Dialling.{legalString}
-use Rattle.setup.specs.Setups.{routing, routingAddress, wellFormed}
+use Rattle.setup.specs.Setups.{routing, routingAddress, listOf, wellFormed}
 use Rattle.making.specs.declared.Maker.the-variants.{Feature as FeatureMaker}
 use Rattle.making.specs.declared.Maker.{Maker}
 use Rattle.making.specs.declared.Outcome.the-variants.{Made}
@@ -80,9 +80,9 @@ record Reached (p : Plan) (out : Setup) (t a : ℕ) : Type 0 where
   pub in-zone : stands t (zoneAt p (receivedOf p out .region) a) ≡ true
   pub here : routingAddress (receivedOf p out) ≡ a
 
-same-box : {p : Plan} {out : Setup} {t a : ℕ} (r : Region) (z : List ℕ) (b : ℕ) → receivedOf p out .region ≡ r → z ≡ zoneAt p r b → routingAddress (receivedOf p out) ≡ b
-    → calleeOf p out ≡ Feature t a → FeatureBox (calleeOf p out) z b → Reached p out t a
-same-box {p} {out} {t} {a} r z b region zone address e box =
+same-box : {p : Plan} {out : Setup} {t a : ℕ} (r : Region) (z : List ℕ) (b : ℕ) (l : List ℕ) → receivedOf p out .region ≡ r → z ≡ zoneAt p r b → routingAddress (receivedOf p out) ≡ b
+    → calleeOf p out ≡ Feature t a → FeatureBox (calleeOf p out) z b l → Reached p out t a
+same-box {p} {out} {t} {a} r z b l region zone address e box =
     let type : box .type ≡ t = ap typeOf (sym (box .is) ∙ e) in
     let place : b ≡ a = ap addressOf (sym (box .is) ∙ e) in
     record { in-zone = rw (region, ← type, ← place, ← zone) (box .in-zone); here = address ∙ place }
@@ -93,11 +93,11 @@ reached p out t a w e =
     let m = manual66 p out w in
     ⊎-elim
     (λ (s : receivedOf p out .region ≡ Source).
-    same-box Source (zoneAt p Source (receivedOf p out .source)) (receivedOf p out .source) s refl (rw s) e (m .in-source s))
+    same-box Source (zoneAt p Source (receivedOf p out .source)) (receivedOf p out .source) (listOf (receivedOf p out .list)) s refl (rw s) e (m .in-source s))
     (λ (s : receivedOf p out .region ≡ Target).
     ⊎-elim
-    (λ (b : FeatureBox (calleeOf p out) (zoneAt p Target (receivedOf p out .target)) (receivedOf p out .target)).
-    same-box Target (zoneAt p Target (receivedOf p out .target)) (receivedOf p out .target) s refl (rw s) e b)
+    (λ (b : FeatureBox (calleeOf p out) (zoneAt p Target (receivedOf p out .target)) (receivedOf p out .target) (listOf (receivedOf p out .list))).
+    same-box Target (zoneAt p Target (receivedOf p out .target)) (receivedOf p out .target) (listOf (receivedOf p out .list)) s refl (rw s) e b)
     (λ (b : calleeOf p out ≡ interfaceAt p (receivedOf p out .target)).
     absurd (false≢true (sym (interface-no-feature p (receivedOf p out .target)) ∙ ap isFeature (sym b ∙ e))))
     (m .in-target s))

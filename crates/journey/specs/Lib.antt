@@ -1,1 +1,4 @@
 pub mod Hops
+pub mod Listing
+pub mod Trips
+pub mod Desk

@@ -49,7 +49,7 @@ fn four(bytes: &[u8], at: usize) -> u32
 
 // ---- what the body of a field says, from the place where it begins
 
-// The five sets.
+// The five sets, four bytes each.
 fn types_at(bytes: &[u8], at: usize) -> Types
     requires { ⌜ at + 20 ≤ length (now bytes) ⌝ }
     ensures { λ r. ⌜ r ≡ typesIn (drop at (now (bytes .entry))) ⌝ }
@@ -320,7 +320,8 @@ fn read_subscribers(
     }
 }
 
-// The rules that are due at the field with this tag, 2 to 4: those of the five sets, of the source order, of the target order. What later fields say is not looked at.
+// Whether the rules are kept that are due at the field with this tag: at 2 those of the five sets, at 3 of the source order, at 4 of the target order. What later fields
+// say is not looked at.
 fn due(tag: u8, types: Types, source: [u32; 32], target: [u32; 32]) -> bool
     ensures { λ r. ⌜ r ≡ cond (ltb tag 3) (typesSound types) (cond (ltb tag 4) (sourceSound types source) (targetSound types source target)) ⌝ }
 {

@@ -123,7 +123,7 @@ fn used(s: Subscriber) -> usize
     if s.count < 4 { s.count as usize } else { 4 }
 }
 
-// Box numbers, without the header.
+// Box numbers, without the header: two bytes each.
 fn put_boxes(room: &mut [u8], at: usize, boxes: [u16; 4], count: usize)
     requires { ⌜ (count ≤ 4) × (at + 2 * count ≤ length (now room)) ⌝ }
     ensures { λ r. ⌜ now (room .exit) ≡ sets (now (room .entry)) at (row 2 (take count boxes)) ⌝ }
@@ -206,6 +206,7 @@ pub fn write(plan: Plan, room: &mut [u8]) -> Written
     if !plan::sound(plan) {
         return Written::Refused(Refusal::RuleBroken(0));
     }
+    // Only counted: no byte is written before the room is known to be long enough. The end field has three bytes.
     let end = put_subscribers(room, subscribers, count, false);
     let size = end + 3;
     if room.len() < size {

@@ -11,6 +11,10 @@ use Rattle.plan.specs.declared.Plan.{Plan}
 use Rattle.setup.specs.declared.Setup.{Setup}
 use Rattle.routing.specs.declared.Later.{Later}
 use Rattle.routing.specs.declared.Answer.{Answer}
+use lib.ListN.{length}
+use Rattle.routing.specs.declared.Later.the-variants.{Nothing}
+use Rattle.routing.specs.Routing.{numberOfOutcome, placeOfOutcome, numberGiven, placeGiven}
+use Rattle.routing.proofs.Numbered.{said}
 use Rattle.routing.proofs.route.Reads as route
 use Rattle.routing.proofs.route.Kinds as route-kinds
 use Rattle.routing.proofs.route_unless.Reads as route-unless
@@ -25,3 +29,10 @@ pub route-unless-exact : (κs : Lfts 2) (plan : Plan) (out : Setup) (later : Lat
     → route-unless.Post κs (plan, (out, (later, (source, (target, tt))))) r end → route-unless.Post κs (plan, (out, (later, (source, (target, tt))))) s end′
     → (r ≡ s) × (end .1 .1 .1 .0 .now ≡ end′ .1 .1 .1 .0 .now) × (end .1 .1 .1 .1 .0 .now ≡ end′ .1 .1 .1 .1 .0 .now)
 route-unless-exact κs plan out later source target end end′ r s p q = (p .0 ∙ sym (q .0), p .1 ∙ sym (q .1), p .2 ∙ sym (q .2))
+
+-- and each result that the contract allows has document 01's number and place
+pub route-numbered : (κs : Lfts 2) (plan : Plan) (out : Setup) (source target : RefT (List ℕ)) (end : AtExit (endedOf 2 route-kinds.ps route-kinds.r) κs) (r : Answer)
+    → route.Post κs (plan, (out, (source, (target, tt)))) r end
+    → (numberOfOutcome (r .outcome) ≡ numberGiven plan out Nothing (length (source .now)) (length (target .now)))
+    × (placeOfOutcome (r .outcome) ≡ placeGiven plan out Nothing (length (source .now)) (length (target .now)))
+route-numbered κs plan out source target end r p = said plan out Nothing (length (source .now)) (length (target .now)) r (p .0)

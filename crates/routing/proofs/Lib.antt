@@ -4,3 +4,4 @@ pub mod Chosen
 pub mod Boxes
 pub mod Properties
 pub mod Exact
+pub mod Numbered

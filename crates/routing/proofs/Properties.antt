@@ -6,8 +6,8 @@ use mathlib.Core.List.{List, [], _∷_}
 use Prim.Native.Nat.{ℕ, zero, suc, _+_, _-_, _≤_, _<_}
 use native.Mathlib.Omega.{arith}
 use lib.Dec.{eqb, leb, ltb}
-use lib.ListN.{length, getD, drop, length-drop, drop-of-length-le}
-use lib.Seq.{drop-cons, drop-length, getD-drop}
+use lib.ListN.{length, getD, take, drop, length-drop, drop-of-length-le}
+use lib.Seq.{drop-cons, drop-length, getD-drop, take-at}
 use borrow.Author.Tests.{le-leb, leb-true, lt-ltb, ltb-true, eq-eqb, eqb-true, ne-eqb}
 use Rattle.typeset.specs.Sets.{least}
 use Rattle.typeset.proofs.Bools.{yes-or-no, clash, and-left, and-right, and-make}
@@ -30,19 +30,21 @@ use Rattle.setup.specs.Dialling.{dialled, stringOf, legalDialled}
 use Rattle.setup.specs.Setups.{routing, routingAddress, listOf, endPart, outerLegal, inRange, listFits, routeFits, outerAbsent, outerGiven, outerFits, wellFormed}
 use Rattle.setup.proofs.Stored.{string-of-dialled}
 use Rattle.setup.proofs.Faults.{Kept, well-formed-kept, well-formed-of, dialled-legal, string-legal}
-use Rattle.setup.proofs.Tails.{end-part-of, end-part-short}
+use Rattle.setup.proofs.Tails.{end-part-of, end-part-short, end-part-is}
 use Rattle.embedded.specs.declared.Dials.{Dials}
 use Rattle.embedded.specs.declared.Dials.the-variants.{Nobody, Address}
 use Rattle.embedded.specs.Embedded.{embedded}
 use Rattle.embedded.proofs.Digits.{embedded-legal}
 use Rattle.routing.specs.declared.Callee.{Callee}
 use Rattle.routing.specs.declared.Callee.the-variants.{Feature}
-use Rattle.routing.specs.Interface.{isFeature, interfaceAt}
+use Rattle.routing.specs.declared.Outcome.the-variants.{Routed}
+use Rattle.routing.specs.Interface.{isFeature, addressOf, interfaceAt}
 use Rattle.routing.specs.Steps.{dials, target1, placeOf, stands, zone2, route2, empty, exhausted, region3, route3, outer3, chosen, tail, callee4, received4, regionOf, routeOf, calleeOf, receivedOf, leftOf}
-use Rattle.routing.specs.Properties.{FeatureBox, Properties, Manual66, ReceivedWellFormed}
+use Rattle.routing.specs.Properties.{FeatureBox, Properties, Manual66, ReceivedWellFormed, LeftLies}
 use Rattle.routing.proofs.Zoned.{held-is, target-given, route-begins}
-use Rattle.routing.specs.Places.{begins}
-use Rattle.routing.proofs.Boxes.{interface-no-feature}
+use Rattle.routing.specs.Routing.{sourceList, targetList}
+use Rattle.routing.specs.Places.{listIn, begins}
+use Rattle.routing.proofs.Boxes.{interface-no-feature, interface-address}
 
 -- ---- end parts of a zone
 
@@ -55,6 +57,12 @@ head-stands k t z ts e =
     let is : getD z k 0 ≡ t = ap (λ (n : ℕ). getD z n 0) (omega arith) ∙ sym (getD-drop k z 0 0) ∙ ap (λ (l : List ℕ). getD l 0 0) e in
     let low = least-at-most (length z) (λ i. eqb (getD z i 0) t) k (eq-eqb (getD z k 0) t is) in
     lt-ltb (least (length z) (λ i. eqb (getD z i 0) t)) (length z) (omega arith)
+
+head-part : (k t : ℕ) (z ts : List ℕ) → drop k z ≡ t ∷ ts → endPart (t ∷ ts) z ≡ true
+head-part k t z ts e =
+    let some : 0 < length (drop k z) = rw e (omega arith) in
+    let inside : k ≤ length z = omega (arith, length-drop k z) in
+    rw (← e) (end-part-of k z inside)
 
 -- and what follows it is an end part too
 tail-part : (k : ℕ) (z : List ℕ) → endPart (tail (drop k z)) z ≡ true
@@ -119,27 +127,56 @@ source-some Source (t ∷ l) e = (refl, refl, refl)
 source-some Target l e = absurd (false≢true (ap isSource e))
 
 head-box : (p : Plan) (out : Setup) → Left p out → (l : List ℕ) → routeOf p out ≡ l
-    → FeatureBox (calleeOf p out) (zoneLeft p out) (routing (regionOf p out) (out .source) (target1 out)) ⊎ ((calleeOf p out ≡ interfaceAt p (target1 out)) × (l ≡ []))
+    → FeatureBox (calleeOf p out) (zoneLeft p out) (routing (regionOf p out) (out .source) (target1 out)) (tail l) ⊎ ((calleeOf p out ≡ interfaceAt p (target1 out)) × (l ≡ []))
 unfolding calleeOf callee4
 head-box p out left [] e = inr (rw e, refl)
-head-box p out left (t ∷ l) e = inl record { type = t; in-zone = head-stands (left .from) t (zoneLeft p out) l (sym (left .is) ∙ e); is = rw e }
+head-box p out left (t ∷ l) e =
+    let here : drop (left .from) (zoneLeft p out) ≡ t ∷ l = sym (left .is) ∙ e in
+    inl record { type = t; in-zone = head-stands (left .from) t (zoneLeft p out) l here; before-left = head-part (left .from) t (zoneLeft p out) l here; is = rw e }
 
-in-source : (p : Plan) (out : Setup) → wellFormed p out ≡ true → regionOf p out ≡ Source → FeatureBox (calleeOf p out) (zoneAt p Source (out .source)) (out .source)
+in-source : (p : Plan) (out : Setup) → wellFormed p out ≡ true → regionOf p out ≡ Source → FeatureBox (calleeOf p out) (zoneAt p Source (out .source)) (out .source) (tail (routeOf p out))
 unfolding routeOf regionOf route3
 in-source p out w s =
     let some = source-some (out .region) (route2 p out) s in
     ⊎-elim
-    (λ (b : FeatureBox (calleeOf p out) (zoneLeft p out) (routing (regionOf p out) (out .source) (target1 out))). rw s at b)
+    (λ (b : FeatureBox (calleeOf p out) (zoneLeft p out) (routing (regionOf p out) (out .source) (target1 out)) (tail (routeOf p out))). rw s at b)
     (λ (b : (calleeOf p out ≡ interfaceAt p (target1 out)) × (routeOf p out ≡ [])).
     absurd (false≢true (sym (some .1) ∙ ap empty (rw (some .2) at (b .1)))))
     (head-box p out (left-of p out w) (routeOf p out) refl)
 
+one-of : (r : Region) → (r ≡ Source) ⊎ (r ≡ Target)
+one-of Source = inl refl
+one-of Target = inr refl
+
 in-target : (p : Plan) (out : Setup) → wellFormed p out ≡ true → regionOf p out ≡ Target
-    → FeatureBox (calleeOf p out) (zoneAt p Target (target1 out)) (target1 out) ⊎ (calleeOf p out ≡ interfaceAt p (target1 out))
+    → FeatureBox (calleeOf p out) (zoneAt p Target (target1 out)) (target1 out) (tail (routeOf p out)) ⊎ (calleeOf p out ≡ interfaceAt p (target1 out))
 in-target p out w t =
     ⊎-elim
-    (λ (b : FeatureBox (calleeOf p out) (zoneLeft p out) (routing (regionOf p out) (out .source) (target1 out))). inl (rw t at b))
+    (λ (b : FeatureBox (calleeOf p out) (zoneLeft p out) (routing (regionOf p out) (out .source) (target1 out)) (tail (routeOf p out))). inl (rw t at b))
     (λ (b : (calleeOf p out ≡ interfaceAt p (target1 out)) × (routeOf p out ≡ [])). inr (b .0))
+    (head-box p out (left-of p out w) (routeOf p out) refl)
+
+-- what is there when the callee box is none of the zone's
+no-feature : (p : Plan) (out : Setup) → wellFormed p out ≡ true → isFeature (calleeOf p out) ≡ false → (regionOf p out ≡ Target) × (leftOf p out ≡ 0) × (calleeOf p out ≡ interfaceAt p (target1 out))
+unfolding leftOf
+no-feature p out w f =
+    ⊎-elim
+    (λ (b : FeatureBox (calleeOf p out) (zoneLeft p out) (routing (regionOf p out) (out .source) (target1 out)) (tail (routeOf p out))).
+    absurd (false≢true (sym f ∙ ap isFeature (b .is))))
+    (λ (b : (calleeOf p out ≡ interfaceAt p (target1 out)) × (routeOf p out ≡ [])). (
+      ⊎-elim (λ (s : regionOf p out ≡ Source). absurd (false≢true (sym f ∙ ap isFeature (in-source p out w s .is)))) (λ (t : regionOf p out ≡ Target). t) (one-of (regionOf p out)),
+      ap (λ (l : List ℕ). length (tail l)) (b .1),
+      b .0,
+    ))
+    (head-box p out (left-of p out w) (routeOf p out) refl)
+
+box-address : (p : Plan) (out : Setup) → wellFormed p out ≡ true → addressOf (calleeOf p out) ≡ routing (regionOf p out) (out .source) (target1 out)
+box-address p out w =
+    ⊎-elim
+    (λ (b : FeatureBox (calleeOf p out) (zoneLeft p out) (routing (regionOf p out) (out .source) (target1 out)) (tail (routeOf p out))). ap addressOf (b .is))
+    (λ (b : (calleeOf p out ≡ interfaceAt p (target1 out)) × (routeOf p out ≡ [])).
+    let n = no-feature p out w (ap isFeature (b .0) ∙ interface-no-feature p (target1 out)) in
+    ap addressOf (b .0) ∙ interface-address p (target1 out) ∙ sym (ap (λ (r : Region). routing r (out .source) (target1 out)) (n .0)))
     (head-box p out (left-of p out w) (routeOf p out) refl)
 
 -- ---- 6.6
@@ -156,9 +193,25 @@ manual66 p out w = record {
   left = sym (ap length (held-is (tail (routeOf p out))));
   unplaced = refl;
   no-outer = no-outer p out w;
-  in-source = in-source p out w;
-  in-target = in-target p out w;
+  in-source = λ (s : regionOf p out ≡ Source). rw (held-is (tail (routeOf p out))) (in-source p out w s);
+  in-target = λ (t : regionOf p out ≡ Target). rw (held-is (tail (routeOf p out))) (in-target p out w t);
+  address = box-address p out w;
+  interface = no-feature p out w;
 }
+
+-- ---- where what is left lies
+
+list-holds : (p : Plan) (r : Region) (out : Setup) (callee : Callee) (source target : List ℕ)
+    → take (length (zoneAt p r (routing r (out .source) (target1 out)))) (listIn r (sourceList p out (Routed callee) source) (targetList p out (Routed callee) target)) ≡ zoneAt p r (routing r (out .source) (target1 out))
+unfolding sourceList targetList
+list-holds p Source out callee source target = take-at (zoneAt p Source (out .source)) (drop (length (zoneAt p Source (out .source))) source) (length (zoneAt p Source (out .source))) refl
+list-holds p Target out callee source target = take-at (zoneAt p Target (target1 out)) (drop (length (zoneAt p Target (target1 out))) target) (length (zoneAt p Target (target1 out))) refl
+
+pub left-lies : LeftLies
+unfolding receivedOf received4 routingAddress
+left-lies p out callee source target w =
+    let m = manual66 p out w in
+    rw (list-holds p (regionOf p out) out callee source target, m .left) (sym (end-part-is (listOf (receivedOf p out .list)) (zoneLeft p out) (m .end-part)))
 
 -- ---- what a feature box receives
 
@@ -236,7 +289,7 @@ received-well-formed p out t a w e =
     let short : length (tail (routeOf p out)) ≤ 32 =
     rw (left .is) (omega (arith, zone-short p (regionOf p out) (routing (regionOf p out) (out .source) (target1 out)), end-part-short (tail (drop (left .from) (zoneLeft p out))) (zoneLeft p out) (tail-part (left .from) (zoneLeft p out)))) in
     ⊎-elim
-    (λ (b : FeatureBox (calleeOf p out) (zoneLeft p out) (routing (regionOf p out) (out .source) (target1 out))).
+    (λ (b : FeatureBox (calleeOf p out) (zoneLeft p out) (routing (regionOf p out) (out .source) (target1 out)) (tail (routeOf p out))).
     well-formed-of p (receivedOf p out) record {
       in-range = received-range p out (k .in-range);
       routed = no-zero p (regionOf p out) (b .type) (routing (regionOf p out) (out .source) (target1 out)) (b .in-zone);

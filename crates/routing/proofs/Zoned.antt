@@ -1,6 +1,6 @@
 -- From the lists to the steps: what the program finds in the two zones is what the steps of routing say. Assumes nothing.
 use mathlib.Core.Path.{_≡_, refl, sym, ap, _∙_}
-use mathlib.Core.Logic.{⊎-elim}
+use mathlib.Core.Logic.{_⊎_, inl, inr, ⊎-elim}
 use mathlib.Core.Bool.{Bool, true, false, cond, false≢true, _&&_}
 use mathlib.Core.List.{List}
 use Prim.Native.Nat.{ℕ, _-_, _≤_, _<_}
@@ -28,6 +28,7 @@ use Rattle.setup.specs.Setups.{routing, routingAddress, listOf, endPart, listFi
 use Rattle.setup.proofs.Faults.{Kept, well-formed-kept, fault-in}
 use Rattle.setup.proofs.Tails.{end-part-is}
 use Rattle.refusal.specs.declared.Refusal.{Refusal}
+use Rattle.refusal.specs.declared.Refusal.the-variants.{RuleBroken, Malformed, ListTooShort}
 use Rattle.routing.specs.declared.Later.{Later}
 use Rattle.routing.specs.declared.Later.the-variants.{Nothing, Refuse}
 use Rattle.routing.specs.declared.Outcome.{Outcome}
@@ -67,6 +68,29 @@ settled-passed p out later n m e =
     (λ (b : wellFormed p out ≡ false). absurd (false≢true (sym (ap refuses (rw (a, b) at e)))))
     (yes-or-no (wellFormed p out)))
     (λ (a : sound p ≡ false). absurd (false≢true (sym (ap refuses (rw a at e)))))
+    (yes-or-no (sound p))
+
+-- a refusal is one of routing's own three, or the caller's
+refusalIn : Later → Refusal → Refusal
+refusalIn Nothing x = x
+refusalIn (Refuse r) x = r
+
+same-refusal : {r x : Refusal} → Refuse x ≡ Refuse r → r ≡ x
+unfolding refusalIn
+same-refusal {r} {x} e = sym (ap (λ (l : Later). refusalIn l x) e)
+
+pub settled-refusal : (p : Plan) (out : Setup) (later : Later) (n m : ℕ) (r : Refusal) → settled p out later n m ≡ Refuse r
+    → (r ≡ RuleBroken 0) ⊎ ((r ≡ Malformed) ⊎ ((r ≡ ListTooShort) ⊎ (later ≡ Refuse r)))
+unfolding settled
+settled-refusal p out later n m r e =
+    ⊎-elim (λ (a : sound p ≡ true).
+    ⊎-elim (λ (b : wellFormed p out ≡ true).
+    ⊎-elim (λ (d : roomy n m ≡ true). inr (inr (inr (rw (a, b, d) at e))))
+    (λ (d : roomy n m ≡ false). inr (inr (inl (same-refusal (rw (a, b, d) at e)))))
+    (yes-or-no (roomy n m)))
+    (λ (b : wellFormed p out ≡ false). inr (inl (same-refusal (rw (a, b) at e))))
+    (yes-or-no (wellFormed p out)))
+    (λ (a : sound p ≡ false). inl (same-refusal (rw a at e)))
     (yes-or-no (sound p))
 
 pub room-source : (n m : ℕ) → roomy n m ≡ true → 32 ≤ n
@@ -186,6 +210,16 @@ target-refused p out later n m r l e = rw (list-refused p out later n m r e)
 pub answer-refused : (p : Plan) (out : Setup) (later : Later) (n m : ℕ) (r : Refusal) → settled p out later n m ≡ Refuse r → answer p out later n m ≡ refusedWith r
 unfolding answer answered
 answer-refused p out later n m r e = rw (list-refused p out later n m r e)
+
+-- what is answered has the outcome in it
+has-outcome : (o : Outcome) (s : Setup) (n : ℕ) → answered o s n .outcome ≡ o
+unfolding answered refusedWith
+has-outcome (Routed c) s n = refl
+has-outcome (Refused r) s n = refl
+
+pub answer-outcome : (p : Plan) (out : Setup) (later : Later) (n m : ℕ) → answer p out later n m .outcome ≡ outcome p out later n m
+unfolding answer
+answer-outcome p out later n m = has-outcome (outcome p out later n m) (receivedOf p out) (leftOf p out)
 
 pub source-routed : (p : Plan) (out : Setup) (later : Later) (n m : ℕ) (z : Zone) (l : List ℕ) → settled p out later n m ≡ Nothing → listOf z ≡ zoneAt p Source (out .source)
     → length (listOf z) ≤ length l → sets l 0 (listOf z) ≡ sourceList p out (outcome p out later n m) l

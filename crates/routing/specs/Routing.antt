@@ -1,13 +1,15 @@
 -- Routing as an operation: what is answered for any plan, setup and lent lists, and what the lists hold afterwards. Refusals 23, 5, 18 in this order; then one of the caller's own,
 -- where the caller has more to settle (placing: 16, 11). Assumes nothing.
 use Prim.Native.Nat.{ℕ}
-use mathlib.Core.Bool.{Bool, true, false, _&&_}
+use mathlib.Core.Bool.{Bool, true, false, not, _&&_, cond}
 use mathlib.Core.List.{List, _++_}
 use lib.Dec.{leb}
 use lib.ListN.{length, drop}
 use Rattle.refusal.specs.declared.Refusal.{Refusal}
 use Rattle.refusal.specs.declared.Refusal.the-variants.{RuleBroken, Malformed, ListTooShort}
-use Rattle.refusal.specs.Numbers.{numberOf}
+use Rattle.refusal.specs.declared.Place.{Place}
+use Rattle.refusal.specs.declared.Place.the-variants.{Nowhere, At}
+use Rattle.refusal.specs.Numbers.{numberOf, placeOf}
 use Rattle.plan.specs.declared.Region.the-variants.{Source, Target}
 use Rattle.plan.specs.declared.Plan.{Plan}
 use Rattle.plan.specs.Sound.{sound}
@@ -72,3 +74,26 @@ targetList p out o l = lent o (zoneAt p Target (target1 out)) l
 abbrev pub numberOfOutcome : Outcome → ℕ
 numberOfOutcome (Routed c) = 0
 numberOfOutcome (Refused r) = numberOf r
+
+-- the place beside it: 0 with 23, nowhere else
+abbrev pub placeOfOutcome : Outcome → Place
+placeOfOutcome (Routed c) = Nowhere
+placeOfOutcome (Refused r) = placeOf r
+
+-- what the caller's own refusal is in numbers and places
+abbrev pub numberOfLater : Later → ℕ
+numberOfLater Nothing = 0
+numberOfLater (Refuse r) = numberOf r
+
+abbrev pub placeOfLater : Later → Place
+placeOfLater Nothing = Nowhere
+placeOfLater (Refuse r) = placeOf r
+
+-- 23 for a plan that breaks a rule, 5 for a setup that is not well formed, 18 for a list shorter than 32, in this order; then the caller's own
+unfoldable pub numberGiven : Plan → Setup → Later → ℕ → ℕ → ℕ
+numberGiven p out later sourceRoom targetRoom =
+    cond (not (sound p)) 23 (cond (not (wellFormed p out)) 5 (cond (not (roomy sourceRoom targetRoom)) 18 (numberOfLater later)))
+
+unfoldable pub placeGiven : Plan → Setup → Later → ℕ → ℕ → Place
+placeGiven p out later sourceRoom targetRoom =
+    cond (not (sound p)) (At 0) (cond (wellFormed p out && roomy sourceRoom targetRoom) (placeOfLater later) Nowhere)

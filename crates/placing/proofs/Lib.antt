@@ -1,0 +1,4 @@
+pub mod Plain
+pub mod Settles
+pub mod Operations
+pub mod Exact

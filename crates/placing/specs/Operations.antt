@@ -1,0 +1,101 @@
+-- The public operations on a lent row, one after the other, refused ones included; and what holds of a row on which nothing else was done. The statements are proved in proofs/Operations.antt. Assumes nothing.
+use Prim.Native.Nat.{ℕ, _≤_, _<_}
+use mathlib.Core.Path.{_≡_}
+use mathlib.Core.Logic.{_≢_}
+use mathlib.Core.List.{List, [], _∷_, _++_}
+use lib.ListN.{length, replicate}
+use Rattle.refusal.specs.declared.Refusal.the-variants.{NoSuchCall}
+use Rattle.plan.specs.declared.Plan.{Plan}
+use Rattle.setup.specs.declared.Setup.{Setup}
+use Rattle.routing.specs.declared.Callee.{Callee}
+use Rattle.routing.specs.declared.Later.the-variants.{Nothing}
+use Rattle.routing.specs.declared.Outcome.{Outcome}
+use Rattle.routing.specs.declared.Outcome.the-variants.{Routed, Refused}
+use Rattle.routing.specs.Routing.{outcome, answer, numberOfOutcome}
+use Rattle.call.specs.declared.Call.{Call}
+use Rattle.call.specs.declared.Command.{Command}
+use Rattle.call.specs.Protocol.{cleared, nextUse}
+use Rattle.call.specs.Row.{Act, place, command, recordAt, refuses, turn, turns, numberOfReply, own, placings}
+use Rattle.call.specs.Teardown.{AllFree, PlacedLowest, FirstTeardownIn, ClosesIn}
+use Rattle.placing.specs.Rows.{outcomeIn, answerIn, placedIn, rowAfter}
+
+-- a placing of a setup under a plan, with n and m places in the two lists; or a command for a record and a use number
+pub data Operation : Type 0 where
+  placing : (p : Plan) (s : Setup) (n m : ℕ) → Operation
+  commanding : (r u : ℕ) → Command → Operation
+
+-- the row after it, and the number of 01 that is answered; 0 for what is accepted
+abbrev pub rowOf : List Call → Operation → List Call
+rowOf row (placing p s n m) = rowAfter row p s n m
+rowOf row (commanding r u k) = turn row (command r u k) .row
+
+abbrev pub numberFor : List Call → Operation → ℕ
+numberFor row (placing p s n m) = numberOfOutcome (outcomeIn row p s n m)
+numberFor row (commanding r u k) = numberOfReply (turn row (command r u k) .reply)
+
+abbrev pub rowsOf : List Call → List Operation → List Call
+rowsOf row [] = row
+rowsOf row (x ∷ xs) = rowsOf (rowOf row x) xs
+
+-- the same with clearing among them
+pub data Use : Type 0 where
+  operating : Operation → Use
+  clearing : Use
+
+abbrev pub used : List Call → List Use → List Call
+used row [] = row
+used row (operating x ∷ xs) = used (rowOf row x) xs
+used row (clearing ∷ xs) = used (replicate (length row) cleared) xs
+
+-- IN A ROW THAT BEGAN CLEARED 17 NEVER OCCURS, whatever operations came before.
+abbrev pub Never17 : Type 0
+Never17 = (n : ℕ) (before : List Use) (x : Operation) → numberFor (used (replicate n cleared) before) x ≢ 17
+
+-- THE CALL'S THEOREMS HOLD OF THESE OPERATIONS: what they do to a row is what the acts do that the call's own theorems speak of. A placing that is refused is no act.
+abbrev pub actBy : Outcome → List Act
+actBy (Routed c) = place ∷ []
+actBy (Refused x) = []
+
+abbrev pub actOf : List Call → Operation → List Act
+actOf row (placing p s n m) = actBy (outcomeIn row p s n m)
+actOf row (commanding r u k) = command r u k ∷ []
+
+abbrev pub actsOf : List Call → List Operation → List Act
+actsOf row [] = []
+actsOf row (x ∷ xs) = actOf row x ++ actsOf (rowOf row x) xs
+
+abbrev pub AsActs : Type 0
+AsActs = (row : List Call) (xs : List Operation) → rowsOf row xs ≡ turns row (actsOf row xs)
+
+-- THE THIRD DEMAND of every call: a call is placed, whatever the row held before, and answered with record r and use number u; then come any operations, of which those on r are the commands before, k, later, and k sends the first teardown.
+pub record CallPlaced (row : List Call) (p : Plan) (s : Setup) (n m r u : ℕ) : Type 0 where
+  pub callee : Callee
+  pub routed : outcomeIn row p s n m ≡ Routed callee
+  pub record-is : placedIn row p s n m .«record_number» ≡ r
+  pub use-is : placedIn row p s n m .«use_number» ≡ u
+
+abbrev pub Demand3 : Type 0
+Demand3 =
+    (row : List Call) (p : Plan) (s : Setup) (n m r u : ℕ) (xs : List Operation) (before : List Command) (k : Command) (later : List Command)
+    → CallPlaced row p s n m r u → FirstTeardownIn row r u (actsOf (rowAfter row p s n m) xs) before k later
+    → (rowsOf row (placing p s n m ∷ xs) ≡ turns row (place ∷ actsOf (rowAfter row p s n m) xs)) × ClosesIn row r u (actsOf (rowAfter row p s n m) xs) before k later
+
+-- PLACING takes the lowest free record, answers with it and its use number, one more than before (65,535 followed by 0), and with exactly what routing alone gives; every other record is as it was.
+pub record PlacesLowest (row : List Call) (p : Plan) (s : Setup) (n m : ℕ) : Type 0 where
+  pub lowest : PlacedLowest row (placedIn row p s n m .«record_number») (placedIn row p s n m .«use_number») (rowAfter row p s n m)
+  pub stepped : placedIn row p s n m .«use_number» ≡ nextUse (recordAt row (placedIn row p s n m .«record_number») .«use_number»)
+  pub as-routing : placedIn row p s n m .routed ≡ answer p s Nothing n m
+  pub as-routed : outcomeIn row p s n m ≡ outcome p s Nothing n m
+
+abbrev pub Placing : Type 0
+Placing = (row : List Call) (p : Plan) (s : Setup) (n m : ℕ) (c : Callee) → outcomeIn row p s n m ≡ Routed c → PlacesLowest row p s n m
+
+-- AN OLD NAME (C7): after one placing and fewer than 65,536 in its record, a command by the use number of then is refused 10; after 65,536 the number fits again.
+pub record OldName (row : List Call) (acts : List Act) (r : ℕ) : Type 0 where
+  pub refused : placings (own r row acts) < 65536 → (k : Command) → turn (turns row acts) (command r (recordAt row r .«use_number») k) ≡ refuses NoSuchCall (turns row acts)
+  pub again : placings (own r row acts) ≡ 65536 → recordAt (turns row acts) r .«use_number» ≡ recordAt row r .«use_number»
+
+abbrev pub OldNames : Type 0
+OldNames =
+    (row : List Call) (acts : List Act) (r : ℕ) → length row ≤ 1024 → r < length row → recordAt row r .«use_number» < 65536
+    → 0 < placings (own r row acts) → placings (own r row acts) ≤ 65536 → OldName row acts r
