@@ -1,2 +1,3 @@
 pub mod Orders
 pub mod Exact
+pub mod Skips

@@ -29,6 +29,16 @@ fn closed(rows: [u32; 32], row: u32) -> bool
     true
 }
 
+// The same; an empty row has no type to ask for.
+fn row_closed(rows: [u32; 32], row: u32) -> bool
+    ensures { λ r. ⌜ r ≡ closed rows row ⌝ }
+{
+    if row == 0 {
+        return true;
+    }
+    closed(rows, row)
+}
+
 // Whether the type t is chosen or its row is empty.
 fn empty_unless(chosen: u32, t: u32, row: u32) -> bool
     ensures { λ r. ⌜ r ≡ emptyUnless chosen t row ⌝ }
@@ -55,7 +65,7 @@ fn row_sound(chosen: u32, rows: [u32; 32], t: u32) -> bool
     if typeset::has(row, t) {
         return false;
     }
-    closed(rows, row)
+    row_closed(rows, row)
 }
 
 // Whether the order of a region with this choice keeps L2 to L5.
@@ -109,12 +119,23 @@ fn ordered_at(reversible: u32, source: [u32; 32], a: u32) -> bool
     true
 }
 
+// The same; a type that is not one of these is beside none.
+fn ordered_beside(reversible: u32, source: [u32; 32], a: u32) -> bool
+    requires { ⌜ a < 32 ⌝ }
+    ensures { λ r. ⌜ r ≡ orderedAt reversible source a ⌝ }
+{
+    if !typeset::has(reversible, a) {
+        return true;
+    }
+    ordered_at(reversible, source, a)
+}
+
 // L8: whether any two of these types are ordered.
 pub fn reversible_ordered(reversible: u32, source: [u32; 32]) -> bool
     ensures { λ r. ⌜ r ≡ reversibleOrdered reversible source ⌝ }
 {
     for a in 0u32..32u32 {
-        if !ordered_at(reversible, source, a) {
+        if !ordered_beside(reversible, source, a) {
             return false;
         }
     }
@@ -152,12 +173,23 @@ fn opposed_at(reversible: u32, source: [u32; 32], target: [u32; 32], a: u32) -> 
     true
 }
 
+// The same; a type that is not one of these is beside none.
+fn opposed_beside(reversible: u32, source: [u32; 32], target: [u32; 32], a: u32) -> bool
+    requires { ⌜ a < 32 ⌝ }
+    ensures { λ r. ⌜ r ≡ opposedAt reversible source target a ⌝ }
+{
+    if !typeset::has(reversible, a) {
+        return true;
+    }
+    opposed_at(reversible, source, target, a)
+}
+
 // L9: whether any two of these types are ordered one way in the source order and the other way in the target order.
 pub fn reversible_opposed(reversible: u32, source: [u32; 32], target: [u32; 32]) -> bool
     ensures { λ r. ⌜ r ≡ reversibleOpposed reversible source target ⌝ }
 {
     for a in 0u32..32u32 {
-        if !opposed_at(reversible, source, target, a) {
+        if !opposed_beside(reversible, source, target, a) {
             return false;
         }
     }

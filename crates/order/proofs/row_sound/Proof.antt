@@ -38,8 +38,8 @@ returns-3 c =
       sym (c .before .has .ensures) ∙ c .if3 .taken,
     )
 
-closed-requires : tie.Need-closed-requires
-closed-requires c κs = search needs
+row-closed-requires : tie.Need-row-closed-requires
+row-closed-requires c κs = search needs
 
 returns-4 : tie.Need-returns-4
 unfolding rowSound
@@ -48,7 +48,7 @@ returns-4 c =
       passed (c .before .before .before .before .before .before .within .ensures) (c .before .before .before .before .before .if1 .left),
       passed (c .before .before .before .before .empty-unless .ensures) (c .before .before .before .if2 .left),
       sym (c .before .before .has .ensures) ∙ c .before .if3 .left,
-    ) (c .closed .ensures)
+    ) (c .row-closed .ensures)
 
 pub row-sound-spec : {M : Type 1} → statement M
 row-sound-spec =
@@ -62,5 +62,5 @@ row-sound-spec =
     returns-2
     has-requires
     returns-3
-    closed-requires
+    row-closed-requires
     returns-4)

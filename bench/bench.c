@@ -1,0 +1,133 @@
+/* bench: nanoseconds for the archive and for the peer, medians of interleaved rounds in one process, and the bytes of stack that each used. */
+#define _GNU_SOURCE
+#include "../host/peer.h"
+#include "../host/random.h"
+#include <stdio.h>
+#include <stdlib.h>
+#include <time.h>
+#include <ucontext.h>
+
+#define ROUNDS 15
+#define STACK (512 * 1024)
+
+static uint8_t file[FILE_MAX], room[FILE_MAX], sent[DFC_SETUP], made[DFC_SETUP], list[2][32], types[32];
+static size_t file_size;
+static uint32_t maker, dialled;
+
+static uint64_t sink;
+static double now(void) {
+    struct timespec t;
+    clock_gettime(CLOCK_MONOTONIC, &t);
+    return (double)t.tv_sec * 1e9 + (double)t.tv_nsec;
+}
+
+#define OPERATION(what, call_ours, call_peer)                                                                                              \
+    static void ours_##what(void) { sink += call_ours; }                                                                                  \
+    static void peer_##what##_once(void) { sink += call_peer; }
+OPERATION(check, dfc_check(file, file_size).number, peer_check(file, file_size).number)
+OPERATION(write, dfc_write(file, file_size, room, sizeof room).number, peer_write(file, file_size, room, sizeof room).number)
+OPERATION(zone, dfc_zone(file, file_size, DFC_SOURCE, maker, types).value, peer_zone(file, file_size, DFC_SOURCE, maker, types).value)
+OPERATION(new, dfc_new(file, file_size, DFC_FEATURE, 2, maker, (const uint8_t *)"300", 3, dialled, made).number,
+          peer_new(file, file_size, DFC_FEATURE, 2, maker, (const uint8_t *)"300", 3, dialled, made).number)
+OPERATION(route, dfc_route(file, file_size, sent, DFC_SETUP, list[0], 32, list[1], 32, made).value,
+          peer_route(file, file_size, sent, DFC_SETUP, list[0], 32, list[1], 32, made).value)
+
+/* ---- the stack: a call on a painted stack of its own */
+
+static uint8_t painted[STACK] __attribute__((aligned(64)));
+static ucontext_t home, away;
+static void (*todo)(void);
+static void there(void) { todo(); }
+static size_t stack_of(void (*f)(void)) {
+    memset(painted, 0xA5, STACK);
+    getcontext(&away);
+    away.uc_stack.ss_sp = painted, away.uc_stack.ss_size = STACK, away.uc_link = &home;
+    todo = f;
+    makecontext(&away, there, 0);
+    swapcontext(&home, &away);
+    size_t k = 0;
+    while (k < STACK && painted[k] == 0xA5) k++;
+    return STACK - k;
+}
+
+static int order(const void *a, const void *b) { return (*(const double *)a > *(const double *)b) - (*(const double *)a < *(const double *)b); }
+
+static void row(const char *what, void (*ours)(void), void (*peer)(void)) {
+    double t[2][ROUNDS];
+    void (*f[2])(void) = {ours, peer};
+    unsigned n = 1;
+    for (double d = 0; d < 4e6; n *= 2) {
+        double s = now();
+        for (unsigned k = 0; k < n; k++) ours();
+        d = now() - s;
+    }
+    for (int r = 0; r < ROUNDS; r++)
+        for (int side = 0; side < 2; side++) {
+            double s = now();
+            for (unsigned k = 0; k < n; k++) f[side]();
+            t[side][r] = (now() - s) / n;
+        }
+    for (int side = 0; side < 2; side++) qsort(t[side], ROUNDS, sizeof(double), order);
+    printf("| %-34s | %9.0f | %9.0f | %5.2f | %7zu | %7zu |\n", what, t[0][ROUNDS / 2], t[1][ROUNDS / 2], t[0][ROUNDS / 2] / t[1][ROUNDS / 2],
+           stack_of(ours), stack_of(peer));
+    fflush(stdout);
+}
+
+/* ---- the plans */
+
+static any_plan p;
+#define T(t) ((uint32_t)1 << (t))
+static void sub(uint32_t address, uint8_t kind, uint32_t source, uint32_t target, uint8_t boxes, uint16_t first) {
+    any_subscriber *s = &p.sub[p.count++];
+    *s = (any_subscriber){.kind = kind, .boxes = boxes, .address = address, .source = source, .target = target};
+    for (int j = 0; j < boxes; j++) s->box[j] = (uint16_t)(first + j);
+}
+static void types_of_teaching(void) {
+    memset(&p, 0, sizeof p);
+    p.set[0] = 62, p.set[1] = p.set[2] = T(2) | T(4), p.set[3] = T(1) | T(2) | T(4), p.set[4] = T(2) | T(3) | T(4) | T(5);
+    p.row[0][1] = T(2) | T(4), p.row[0][2] = T(4), p.row[1][5] = T(4) | T(2), p.row[1][4] = T(2);
+}
+static void teaching(void) {
+    types_of_teaching();
+    sub(200, 1, T(1) | T(2) | T(4), T(2) | T(4), 1, 7), sub(300, 1, T(2) | T(4), T(2) | T(3) | T(4) | T(5), 1, 8);
+    sub(555, 2, 0, 0, 2, 40), sub(556, 2, 0, 0, 0, 0), sub(700, 4, T(1), T(3), 0, 0), sub(900, 3, 0, 0, 1, 60);
+    maker = 200, dialled = 300;
+}
+static void many(void) {
+    types_of_teaching();
+    for (unsigned i = 0; i < 256; i++) sub(1000 + 3 * i, (uint8_t)(1 + i % 4), T(1) | T(2) | T(4), T(2) | T(3) | T(4) | T(5), i % 4 == 3 ? 0 : 1, (uint16_t)(100 + i));
+    maker = 1000 + 3 * 128, dialled = 1000 + 3 * 255;
+}
+static void trunks(void) {
+    types_of_teaching();
+    for (unsigned i = 0; i < 256; i++) sub(1000 + 3 * i, 2, 0, 0, 4, (uint16_t)(100 + 4 * i));
+    maker = 1000, dialled = 1003;
+}
+static void take(void (*plan)(void)) {
+    plan();
+    file_size = plan_bytes(&p, file);
+    dfc_answer a = dfc_check(file, file_size);
+    if (a.number) printf("plan refused: %llu at %llu\n", (unsigned long long)a.number, (unsigned long long)a.value), exit(1);
+    a = dfc_new(file, file_size, DFC_FEATURE, 2, maker, (const uint8_t *)"300", 3, dialled, sent);
+    if (a.number) printf("setup refused: %llu\n", (unsigned long long)a.number), exit(1);
+}
+
+int main(void) {
+    printf("| operation                          |   ours ns |   peer ns | ratio | stack B |  peer B |\n|---|---|---|---|---|---|\n");
+    take(teaching);
+    row("check, teaching plan", ours_check, peer_check_once);
+    row("write, teaching plan", ours_write, peer_write_once);
+    row("zone, teaching plan", ours_zone, peer_zone_once);
+    row("new, teaching plan", ours_new, peer_new_once);
+    row("route, teaching plan", ours_route, peer_route_once);
+    take(many);
+    row("check, 256 subscribers", ours_check, peer_check_once);
+    row("write, 256 subscribers", ours_write, peer_write_once);
+    row("zone, 256 subscribers", ours_zone, peer_zone_once);
+    row("new, 256 subscribers", ours_new, peer_new_once);
+    row("route, 256 subscribers", ours_route, peer_route_once);
+    take(trunks);
+    row("check, 256 trunks with 4 boxes", ours_check, peer_check_once);
+    row("write, 256 trunks with 4 boxes", ours_write, peer_write_once);
+    return sink == 42;
+}

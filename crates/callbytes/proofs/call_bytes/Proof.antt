@@ -1,0 +1,58 @@
+use mathlib.Core.Path.{_≡_, refl}
+use mathlib.Core.List.{[], _∷_, _++_}
+use Rattle.planbytes.specs.Numbers.{high}
+use Rattle.callbytes.specs.Codec.{callBytes}
+use Rattle.callbytes.proofs.Slots.{built}
+use borrow.Author.Needs.{needs}
+use Rattle.callbytes.proofs.call_bytes.Statement.{statement}
+use Rattle.callbytes.proofs.call_bytes.Tie as tie
+use Rattle.callbytes.proofs.call_bytes.Reads as reads
+use Rattle.callbytes.proofs.call_bytes.Lts as lts
+use Rattle.callbytes.proofs.put_count.Reads as put-count-reads
+use Rattle.callbytes.proofs.put_head.Reads as put-head-reads
+use Rattle.callbytes.proofs.put_slots.Reads as put-slots-reads
+use Rattle.callbytes.proofs.state_number.Reads as state-number-reads
+
+-- src/lib.rt:193:9
+state-number-requires : tie.Need-state-number-requires
+state-number-requires c κs = search needs
+
+-- src/lib.rt:194:9
+state-number-requires-2 : tie.Need-state-number-requires-2
+state-number-requires-2 c κs = search needs
+
+-- src/lib.rt:196:5
+put-head-requires : tie.Need-put-head-requires
+put-head-requires c κs = search needs
+
+-- src/lib.rt:197:5
+put-slots-requires : tie.Need-put-slots-requires
+put-slots-requires c κs = search needs
+
+-- src/lib.rt:198:5
+put-count-requires : tie.Need-put-count-requires
+put-count-requires c κs = search needs
+
+-- src/lib.rt:199:5
+put-slots-requires-2 : tie.Need-put-slots-requires-2
+put-slots-requires-2 c κs = search needs
+
+-- src/lib.rt:182:1
+returns : tie.Need-returns
+unfolding callBytes high
+returns c =
+    let k = c .before .before .before .before .before .before .before .before .before .before .before .before .before .before .before .before .args .c in
+    rw (← c .before .before .before .before .before .before .before .before .before .state-number .ensures, ← c .before .before .before .before .before .before .before .before .state-number2 .ensures)
+    (built (c .before .before .before .before .before .before .before .before .before .state-number .result ∷ c .before .before .before .before .before .before .before .before .state-number2 .result ∷ high 2 (k .«use_number») ++ (k .«to_caller» .count ∷ [])) (k .«to_caller» .slots) (k .«to_callee» .slots) (k .«to_callee» .count) refl (c .before .before .before .before .put-slots .ensures .1) (c .put-slots2 .ensures .1) (c .before .before .before .before .before .before .put-head .ensures) (c .before .before .before .before .put-slots .ensures .0) (c .before .before .put-count .ensures) (c .put-slots2 .ensures .0))
+
+pub call-bytes-spec : {M : Type 1} → statement M
+call-bytes-spec =
+    tie.close
+    (tie.spec
+    state-number-requires
+    state-number-requires-2
+    put-head-requires
+    put-slots-requires
+    put-count-requires
+    put-slots-requires-2
+    returns)

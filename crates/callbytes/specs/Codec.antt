@@ -1,0 +1,112 @@
+-- A call record as 102 bytes: the caller's state, the callee's, the use number (high byte first), then what waits for the caller and what waits for the callee, each a count and 16 places of
+-- three bytes: kind, tunnel, code. Any 102 bytes are a record: a number past the last case stands for the last case, and a byte that a kind has no use for does not count. Assumes nothing.
+use Prim.Native.Nat.{ℕ, zero, suc, _+_, _-_}
+use mathlib.Core.Bool.{cond}
+use mathlib.Core.List.{List, [], _∷_, _++_}
+use lib.Dec.{eqb, ltb}
+use lib.ListN.{length, getD, take, drop}
+use Rattle.planbytes.specs.Numbers.{high, number}
+use Rattle.call.specs.declared.State.{State}
+use Rattle.call.specs.declared.State.the-variants.{Idle, Requesting, Waiting, Linked, Unlinking}
+use Rattle.call.specs.declared.Status.{Status}
+use Rattle.call.specs.declared.Status.the-variants.{Unknown, Avail, Unavail, None, Dtmf, Special}
+use Rattle.call.specs.declared.Signal.{Signal}
+use Rattle.call.specs.declared.Signal.the-variants.{Upack, Ordinary, Teardown, Downack}
+use Rattle.call.specs.declared.Slot.{Slot}
+use Rattle.call.specs.declared.Queue.{Queue}
+use Rattle.call.specs.declared.End.{End}
+use Rattle.call.specs.declared.Call.{Call}
+use Rattle.call.specs.Protocol.{cleared}
+
+-- ---- the numbers of the cases
+
+abbrev pub stateNumber : State → ℕ
+stateNumber Idle = 0
+stateNumber Requesting = 1
+stateNumber Waiting = 2
+stateNumber Linked = 3
+stateNumber Unlinking = 4
+
+abbrev pub statusNumber : Status → ℕ
+statusNumber Unknown = 3
+statusNumber Avail = 4
+statusNumber Unavail = 5
+statusNumber None = 6
+statusNumber (Dtmf n) = 7
+statusNumber (Special n) = 8
+
+abbrev pub statusCode : Status → ℕ
+statusCode Unknown = 0
+statusCode Avail = 0
+statusCode Unavail = 0
+statusCode None = 0
+statusCode (Dtmf n) = n
+statusCode (Special n) = n
+
+-- upack 0, teardown 1, downack 2; an ordinary signal has its status' number, its tunnel, and the status' code
+abbrev pub signalNumber : Signal → ℕ
+signalNumber Upack = 0
+signalNumber Teardown = 1
+signalNumber Downack = 2
+signalNumber (Ordinary t s) = statusNumber s
+
+abbrev pub signalTunnel : Signal → ℕ
+signalTunnel Upack = 0
+signalTunnel Teardown = 0
+signalTunnel Downack = 0
+signalTunnel (Ordinary t s) = t
+
+abbrev pub signalCode : Signal → ℕ
+signalCode Upack = 0
+signalCode Teardown = 0
+signalCode Downack = 0
+signalCode (Ordinary t s) = statusCode s
+
+-- ---- and back: any number
+
+abbrev pub stateSaid : ℕ → State
+stateSaid n = cond (eqb n 0) Idle (cond (eqb n 1) Requesting (cond (eqb n 2) Waiting (cond (eqb n 3) Linked Unlinking)))
+
+abbrev pub statusSaid : ℕ → ℕ → Status
+statusSaid n code =
+    cond (eqb n 3) Unknown (cond (eqb n 4) Avail (cond (eqb n 5) Unavail (cond (eqb n 6) None (cond (eqb n 7) (Dtmf code) (Special code)))))
+
+abbrev pub signalSaid : ℕ → ℕ → ℕ → Signal
+signalSaid n tunnel code = cond (eqb n 0) Upack (cond (eqb n 1) Teardown (cond (eqb n 2) Downack (Ordinary tunnel (statusSaid n code))))
+
+-- ---- a record's bytes
+
+abbrev pub slotBytes : Slot → List ℕ
+slotBytes s = signalNumber (s .signal) ∷ signalTunnel (s .signal) ∷ signalCode (s .signal) ∷ []
+
+unfoldable pub slotsBytes : List Slot → List ℕ
+slotsBytes [] = []
+slotsBytes (s ∷ ss) = slotBytes s ++ slotsBytes ss
+
+unfoldable pub callBytes : Call → List ℕ
+callBytes c =
+    (stateNumber (c .caller .state) ∷ stateNumber (c .callee .state) ∷ high 2 (c .«use_number») ++ (c .«to_caller» .count ∷ [])) ++ slotsBytes (c .«to_caller» .slots)
+    ++ (c .«to_callee» .count ∷ []) ++ slotsBytes (c .«to_callee» .slots)
+
+-- ---- the record of 102 bytes
+
+abbrev pub slotAt : List ℕ → ℕ → Slot
+slotAt b at = record { signal = signalSaid (getD b at 0) (getD b (at + 1) 0) (getD b (at + 2) 0) }
+
+-- n places of three bytes each, from a place on
+unfoldable pub slotsFrom : ℕ → List ℕ → ℕ → List Slot
+slotsFrom zero b at = []
+slotsFrom (suc n) b at = slotAt b at ∷ slotsFrom n b (at + 3)
+
+unfoldable pub callIn : List ℕ → Call
+callIn b = record {
+  caller = record { state = stateSaid (getD b 0 0) };
+  callee = record { state = stateSaid (getD b 1 0) };
+  «to_caller» = record { slots = slotsFrom 16 b 5; count = getD b 4 0 };
+  «to_callee» = record { slots = slotsFrom 16 b 54; count = getD b 53 0 };
+  «use_number» = number (take 2 (drop 2 b));
+}
+
+-- the record of the 102 bytes from a place on; the cleared record where there are fewer
+unfoldable pub callAt : List ℕ → ℕ → Call
+callAt b at = cond (ltb (length b - at) 102) cleared (callIn (drop at b))

@@ -1,0 +1,287 @@
+// A call record as 102 bytes, for programs in other languages. Any 102 bytes are a record.
+ghost use mathlib.Core.Path.{_≡_};
+ghost use mathlib.Core.List.{[], _∷_, _++_};
+ghost use Prim.Native.Nat.{_+_, _*_, _≤_, _<_};
+ghost use lib.ListN.{length, take, drop};
+ghost use lib.Seq.{sets};
+ghost use Rattle.planbytes.specs.Numbers.{high, number};
+ghost use Rattle.callbytes.specs.Codec.{stateNumber, statusNumber, statusCode, signalNumber, signalTunnel, signalCode, stateSaid, statusSaid, signalSaid, slotBytes, slotsBytes, callBytes, slotAt, slotsFrom, callIn, callAt};
+use call::Call;
+use call::End;
+use call::Queue;
+use call::Signal;
+use call::Slot;
+use call::State;
+use call::Status;
+
+// ---- the numbers of the cases
+
+fn state_number(s: State) -> u8
+    ensures { λ r. ⌜ r ≡ stateNumber s ⌝ }
+{
+    match s {
+        State::Idle => 0,
+        State::Requesting => 1,
+        State::Waiting => 2,
+        State::Linked => 3,
+        State::Unlinking => 4,
+    }
+}
+
+fn status_number(s: Status) -> u8
+    ensures { λ r. ⌜ r ≡ statusNumber s ⌝ }
+{
+    match s {
+        Status::Unknown => 3,
+        Status::Avail => 4,
+        Status::Unavail => 5,
+        Status::None => 6,
+        Status::Dtmf(_) => 7,
+        Status::Special(_) => 8,
+    }
+}
+
+fn status_code(s: Status) -> u8
+    ensures { λ r. ⌜ r ≡ statusCode s ⌝ }
+{
+    match s {
+        Status::Unknown => 0,
+        Status::Avail => 0,
+        Status::Unavail => 0,
+        Status::None => 0,
+        Status::Dtmf(n) => n,
+        Status::Special(n) => n,
+    }
+}
+
+pub fn signal_number(x: Signal) -> u8
+    ensures { λ r. ⌜ r ≡ signalNumber x ⌝ }
+{
+    match x {
+        Signal::Upack => 0,
+        Signal::Teardown => 1,
+        Signal::Downack => 2,
+        Signal::Ordinary(_, s) => status_number(s),
+    }
+}
+
+pub fn signal_tunnel(x: Signal) -> u8
+    ensures { λ r. ⌜ r ≡ signalTunnel x ⌝ }
+{
+    match x {
+        Signal::Upack => 0,
+        Signal::Teardown => 0,
+        Signal::Downack => 0,
+        Signal::Ordinary(t, _) => t,
+    }
+}
+
+pub fn signal_code(x: Signal) -> u8
+    ensures { λ r. ⌜ r ≡ signalCode x ⌝ }
+{
+    match x {
+        Signal::Upack => 0,
+        Signal::Teardown => 0,
+        Signal::Downack => 0,
+        Signal::Ordinary(_, s) => status_code(s),
+    }
+}
+
+fn state_said(n: u8) -> State
+    ensures { λ r. ⌜ r ≡ stateSaid n ⌝ }
+{
+    if n == 0 {
+        return State::Idle;
+    }
+    if n == 1 {
+        return State::Requesting;
+    }
+    if n == 2 {
+        return State::Waiting;
+    }
+    if n == 3 {
+        State::Linked
+    } else {
+        State::Unlinking
+    }
+}
+
+pub fn status_said(n: u8, code: u8) -> Status
+    ensures { λ r. ⌜ r ≡ statusSaid n code ⌝ }
+{
+    if n == 3 {
+        return Status::Unknown;
+    }
+    if n == 4 {
+        return Status::Avail;
+    }
+    if n == 5 {
+        return Status::Unavail;
+    }
+    if n == 6 {
+        return Status::None;
+    }
+    if n == 7 {
+        Status::Dtmf(code)
+    } else {
+        Status::Special(code)
+    }
+}
+
+fn signal_said(n: u8, tunnel: u8, code: u8) -> Signal
+    ensures { λ r. ⌜ r ≡ signalSaid n tunnel code ⌝ }
+{
+    if n == 0 {
+        return Signal::Upack;
+    }
+    if n == 1 {
+        return Signal::Teardown;
+    }
+    if n == 2 {
+        return Signal::Downack;
+    }
+    Signal::Ordinary(tunnel, status_said(n, code))
+}
+
+// ---- a record's bytes
+
+fn put_slot(room: &mut [u8; 102], at: usize, s: Slot)
+    requires { ⌜ at + 3 ≤ 102 ⌝ }
+    ensures { λ r. ⌜ now (room .exit) ≡ sets (now (room .entry)) at (slotBytes s) ⌝ }
+{
+    let x = s.signal;
+    room[at] = signal_number(x);
+    room[at + 1] = signal_tunnel(x);
+    room[at + 2] = signal_code(x);
+}
+
+fn put_slots(room: &mut [u8; 102], at: usize, slots: [Slot; 16])
+    requires { ⌜ at + 48 ≤ 102 ⌝ }
+    ensures { λ r. ⌜ (now (room .exit) ≡ sets (now (room .entry)) at (slotsBytes slots)) × (length slots ≡ 16) ⌝ }
+{
+    for i in 0usize..16usize {
+        let s = slots[i];
+        put_slot(room, at + 3 * i, s);
+    }
+}
+
+// The four first bytes and a count.
+fn put_head(room: &mut [u8; 102], caller: u8, callee: u8, use_number: u16, count: u8)
+    ensures { λ r. ⌜ now (room .exit) ≡ sets (now (room .entry)) 0 (caller ∷ callee ∷ high 2 «use_number» ++ (count ∷ [])) ⌝ }
+{
+    room[0] = caller;
+    room[1] = callee;
+    room[2] = (use_number / 256 % 256) as u8;
+    room[3] = (use_number % 256) as u8;
+    room[4] = count;
+}
+
+fn put_count(room: &mut [u8; 102], count: u8)
+    ensures { λ r. ⌜ now (room .exit) ≡ sets (now (room .entry)) 53 (count ∷ []) ⌝ }
+{
+    room[53] = count;
+}
+
+// The 102 bytes of any record.
+pub fn call_bytes(c: Call) -> [u8; 102]
+    ensures { λ r. ⌜ r ≡ callBytes c ⌝ }
+{
+    let caller = c.caller;
+    let callee = c.callee;
+    let to_caller = c.to_caller;
+    let to_callee = c.to_callee;
+    let first = caller.state;
+    let second = callee.state;
+    let waiting = to_caller.slots;
+    let coming = to_callee.slots;
+    let a = state_number(first);
+    let b = state_number(second);
+    let mut room = [0u8; 102];
+    put_head(&mut room, a, b, c.use_number, to_caller.count);
+    put_slots(&mut room, 5, waiting);
+    put_count(&mut room, to_callee.count);
+    put_slots(&mut room, 54, coming);
+    room
+}
+
+// ---- the record of some bytes
+
+fn wide(b: u8) -> u32
+    ensures { λ r. ⌜ (r ≡ b) × (r < 256) ⌝ }
+{
+    b as u32
+}
+
+// The number of two bytes at a place.
+fn two(b: &[u8], at: usize) -> u16
+    requires { ⌜ at + 2 ≤ length (now b) ⌝ }
+    ensures { λ r. ⌜ r ≡ number (take 2 (drop at (now (b .entry)))) ⌝ }
+{
+    (wide(b[at]) * 256 + wide(b[at + 1])) as u16
+}
+
+fn slot_at(b: &[u8], at: usize) -> Slot
+    requires { ⌜ at + 3 ≤ length (now b) ⌝ }
+    ensures { λ r. ⌜ r ≡ slotAt (now (b .entry)) at ⌝ }
+{
+    Slot {
+        signal: signal_said(b[at], b[at + 1], b[at + 2]),
+    }
+}
+
+fn slots_at(b: &[u8], at: usize) -> [Slot; 16]
+    requires { ⌜ at + 48 ≤ length (now b) ⌝ }
+    ensures { λ r. ⌜ r ≡ slotsFrom 16 (now (b .entry)) at ⌝ }
+{
+    let blank = Slot {
+        signal: Signal::Upack,
+    };
+    let mut slots = [blank; 16];
+    for i in 0usize..16usize {
+        slots[i] = slot_at(b, at + 3 * i);
+    }
+    slots
+}
+
+fn read(b: &[u8]) -> Call
+    requires { ⌜ 102 ≤ length (now b) ⌝ }
+    ensures { λ r. ⌜ r ≡ callIn (now (b .entry)) ⌝ }
+{
+    Call {
+        caller: End {
+            state: state_said(b[0]),
+        },
+        callee: End {
+            state: state_said(b[1]),
+        },
+        to_caller: Queue {
+            slots: slots_at(b, 5),
+            count: b[4],
+        },
+        to_callee: Queue {
+            slots: slots_at(b, 54),
+            count: b[53],
+        },
+        use_number: two(b, 2),
+    }
+}
+
+fn read_from(b: &[u8], at: usize) -> Call
+    requires { ⌜ at + 102 ≤ length (now b) ⌝ }
+    ensures { λ r. ⌜ r ≡ callIn (drop at (now (b .entry))) ⌝ }
+{
+    read(&b[at..])
+}
+
+// The record of the 102 bytes from a place on; the cleared record where there are fewer.
+pub fn call_at(b: &[u8], at: usize) -> Call
+    ensures { λ r. ⌜ r ≡ callAt (now (b .entry)) at ⌝ }
+{
+    if b.len() < at {
+        return Call::cleared();
+    }
+    if b.len() - at < 102 {
+        return Call::cleared();
+    }
+    read_from(b, at)
+}

@@ -1,0 +1,375 @@
+// The core for programs in other languages: functions on numbers and lent bytes, over a plan file. The header is include/dfc.h.
+ghost use mathlib.Core.Path.{_≡_};
+ghost use Prim.Native.Nat.{_≤_, _<_};
+ghost use lib.ListN.{length};
+ghost use Rattle.setupbytes.specs.Codec.{setupBytes};
+ghost use Rattle.dfc.specs.Said.{placeNumber, accepted, refusal, regionOf, makerOf};
+ghost use Rattle.dfc.specs.Files.{checked, writtenSaid, rewritten, roomRewritten, zoned, typesZoned, madeSaid, madeRoom, making, roomMaking, newOver, continuedOver, reversedOver};
+ghost use Rattle.dfc.specs.Routes.{boxKind, boxNumber, boxAddress, routedTo, notRouted, routedSaid, routedRoom, routed, roomRouted, sourceRouted, targetRouted};
+use making::Maker;
+use making::Outcome;
+use plan::Region;
+use plan::Verdict;
+use planwrite::Written;
+use refusal::Place;
+use refusal::Refusal;
+use routing::Callee;
+use zone::Zone;
+
+// Number 0 and the operation's value; or document 01's number of a refusal and its place.
+#[repr(C)]
+pub struct Answer {
+    pub number: u64,
+    pub value: u64,
+}
+
+fn accepted(value: u64) -> Answer
+    ensures { λ r. ⌜ r ≡ accepted value ⌝ }
+{
+    Answer { number: 0, value }
+}
+
+fn place_number(place: Place) -> u64
+    ensures { λ r. ⌜ r ≡ placeNumber place ⌝ }
+{
+    match place {
+        Place::Nowhere => 0,
+        Place::At(n) => n as u64,
+    }
+}
+
+fn refused(r: Refusal) -> Answer
+    ensures { λ a. ⌜ a ≡ refusal r ⌝ }
+{
+    Answer {
+        number: r.number() as u64,
+        value: place_number(r.place()),
+    }
+}
+
+fn region_of(n: u8) -> Region
+    ensures { λ r. ⌜ r ≡ regionOf n ⌝ }
+{
+    if n == 0 {
+        Region::Source
+    } else {
+        Region::Target
+    }
+}
+
+fn maker_of(kind: u8, of_type: u8, address: u32) -> Maker
+    ensures { λ r. ⌜ r ≡ makerOf kind «of_type» address ⌝ }
+{
+    if kind == 0 {
+        return Maker::Feature(of_type, address);
+    }
+    if kind == 1 {
+        return Maker::Line(address);
+    }
+    if kind == 2 {
+        return Maker::Trunk(address);
+    }
+    if kind == 3 {
+        return Maker::Resource;
+    }
+    Maker::Error
+}
+
+// ---- the plan file
+
+// Whether some bytes are a plan file.
+#[no_mangle]
+pub extern "C" fn dfc_check(file: &[u8]) -> Answer
+    ensures { λ r. ⌜ r ≡ checked (now (file .entry)) ⌝ }
+{
+    let reading = planread::read(file);
+    let verdict = reading.answer;
+    match verdict {
+        Verdict::Sound => accepted(0),
+        Verdict::Refused(r) => refused(r),
+    }
+}
+
+fn written_said(w: Written) -> Answer
+    ensures { λ r. ⌜ r ≡ writtenSaid w ⌝ }
+{
+    match w {
+        Written::Bytes(n) => accepted(n as u64),
+        Written::Refused(r) => refused(r),
+    }
+}
+
+// The plan of a file, written again into the room.
+#[no_mangle]
+pub extern "C" fn dfc_write(file: &[u8], room: &mut [u8]) -> Answer
+    ensures { λ r. ⌜ (r ≡ rewritten (now (file .entry)) (now (room .entry))) × (now (room .exit) ≡ roomRewritten (now (file .entry)) (now (room .entry))) ⌝ }
+{
+    let reading = planread::read(file);
+    let verdict = reading.answer;
+    let plan = reading.plan;
+    match verdict {
+        Verdict::Sound => written_said(planwrite::write(plan, room)),
+        Verdict::Refused(r) => refused(r),
+    }
+}
+
+// ---- zones
+
+fn types_of(zone: Zone) -> [u8; 32]
+    ensures { λ r. ⌜ r ≡ zone .types ⌝ }
+{
+    zone.types
+}
+
+// The zone of an address in a region, into 32 places, and how many types it has.
+#[no_mangle]
+pub extern "C" fn dfc_zone(file: &[u8], region: u8, address: u32, types: &mut [u8; 32]) -> Answer
+    ensures { λ r. ⌜ (r ≡ zoned (now (file .entry)) region address) × (now (types .exit) ≡ typesZoned (now (file .entry)) region address (now (types .entry))) ⌝ }
+{
+    let reading = planread::read(file);
+    let verdict = reading.answer;
+    let plan = reading.plan;
+    match verdict {
+        Verdict::Sound => {
+            let zone = zone::zone_at(plan, region_of(region), address);
+            *types = types_of(zone);
+            accepted(zone.len as u64)
+        }
+        Verdict::Refused(r) => refused(r),
+    }
+}
+
+// ---- making setups
+
+// A setup's bytes into the room, where one was made.
+fn handed(m: making::Answer, room: &mut [u8; 110]) -> Answer
+    ensures { λ r. ⌜ (r ≡ madeSaid (m .outcome)) × (now (room .exit) ≡ madeRoom (m .outcome) (m .setup) (now (room .entry))) ⌝ }
+{
+    let outcome = m.outcome;
+    let setup = m.setup;
+    match outcome {
+        Outcome::Made => {
+            *room = setupbytes::setup_bytes(setup);
+            accepted(110)
+        }
+        Outcome::Refused(r) => refused(r),
+    }
+}
+
+// A new setup.
+#[no_mangle]
+pub extern "C" fn dfc_new(
+    file: &[u8],
+    kind: u8,
+    of_type: u8,
+    address: u32,
+    string: &[u8],
+    target: u32,
+    room: &mut [u8; 110],
+) -> Answer
+    ensures { λ r. ⌜ (r ≡ making (now (file .entry)) (newOver (now (file .entry)) (makerOf kind «of_type» address) (now (string .entry)) target))
+        × (now (room .exit) ≡ roomMaking (now (file .entry)) (newOver (now (file .entry)) (makerOf kind «of_type» address) (now (string .entry)) target) (now (room .entry))) ⌝ }
+{
+    let reading = planread::read(file);
+    let verdict = reading.answer;
+    let plan = reading.plan;
+    match verdict {
+        Verdict::Sound => {
+            let m = making::new_setup(plan, maker_of(kind, of_type, address), string, target);
+            handed(m, room)
+        }
+        Verdict::Refused(r) => refused(r),
+    }
+}
+
+// A setup continued.
+#[no_mangle]
+pub extern "C" fn dfc_continued(
+    file: &[u8],
+    kind: u8,
+    of_type: u8,
+    address: u32,
+    setup: &[u8],
+    source: u32,
+    string: &[u8],
+    target: u32,
+    room: &mut [u8; 110],
+) -> Answer
+    ensures { λ r. ⌜ (r ≡ making (now (file .entry)) (continuedOver (now (file .entry)) (makerOf kind «of_type» address) (now (setup .entry)) source (now (string .entry)) target))
+        × (now (room .exit) ≡ roomMaking (now (file .entry)) (continuedOver (now (file .entry)) (makerOf kind «of_type» address) (now (setup .entry)) source (now (string .entry)) target) (now (room .entry))) ⌝ }
+{
+    let reading = planread::read(file);
+    let verdict = reading.answer;
+    let plan = reading.plan;
+    match verdict {
+        Verdict::Sound => {
+            let s = setupbytes::setup_in(setup);
+            let maker = maker_of(kind, of_type, address);
+            let m = making::continued_setup(plan, maker, s, source, string, target);
+            handed(m, room)
+        }
+        Verdict::Refused(r) => refused(r),
+    }
+}
+
+// A setup reversed.
+#[no_mangle]
+pub extern "C" fn dfc_reversed(
+    file: &[u8],
+    kind: u8,
+    of_type: u8,
+    address: u32,
+    setup: &[u8],
+    source: u32,
+    string: &[u8],
+    target: u32,
+    room: &mut [u8; 110],
+) -> Answer
+    ensures { λ r. ⌜ (r ≡ making (now (file .entry)) (reversedOver (now (file .entry)) (makerOf kind «of_type» address) (now (setup .entry)) source (now (string .entry)) target))
+        × (now (room .exit) ≡ roomMaking (now (file .entry)) (reversedOver (now (file .entry)) (makerOf kind «of_type» address) (now (setup .entry)) source (now (string .entry)) target) (now (room .entry))) ⌝ }
+{
+    let reading = planread::read(file);
+    let verdict = reading.answer;
+    let plan = reading.plan;
+    match verdict {
+        Verdict::Sound => {
+            let s = setupbytes::setup_in(setup);
+            let maker = maker_of(kind, of_type, address);
+            let m = making::reversed_setup(plan, maker, s, source, string, target);
+            handed(m, room)
+        }
+        Verdict::Refused(r) => refused(r),
+    }
+}
+
+// ---- routing
+
+// Number 0, how many types are left, and the callee box; or the refusal's number and place, and zeros.
+#[repr(C)]
+pub struct Routed {
+    pub number: u64,
+    pub value: u64,
+    pub kind: u64,
+    pub box_number: u64,
+    pub address: u64,
+}
+
+fn box_kind(c: Callee) -> u64
+    ensures { λ r. ⌜ r ≡ boxKind c ⌝ }
+{
+    match c {
+        Callee::Feature(_, _) => 0,
+        Callee::Line(_, _) => 1,
+        Callee::Trunk(_, _) => 2,
+        Callee::Resource(_, _) => 3,
+        Callee::Error(_) => 4,
+    }
+}
+
+fn wide_8(n: u8) -> u64
+    ensures { λ r. ⌜ r ≡ n ⌝ }
+{
+    n as u64
+}
+
+fn wide_16(n: u16) -> u64
+    ensures { λ r. ⌜ r ≡ n ⌝ }
+{
+    n as u64
+}
+
+fn wide_32(n: u32) -> u64
+    ensures { λ r. ⌜ r ≡ n ⌝ }
+{
+    n as u64
+}
+
+fn box_number(c: Callee) -> u64
+    ensures { λ r. ⌜ r ≡ boxNumber c ⌝ }
+{
+    match c {
+        Callee::Feature(t, _) => wide_8(t),
+        Callee::Line(n, _) => wide_16(n),
+        Callee::Trunk(n, _) => wide_16(n),
+        Callee::Resource(n, _) => wide_16(n),
+        Callee::Error(_) => 0,
+    }
+}
+
+fn box_address(c: Callee) -> u64
+    ensures { λ r. ⌜ r ≡ boxAddress c ⌝ }
+{
+    match c {
+        Callee::Feature(_, a) => wide_32(a),
+        Callee::Line(_, a) => wide_32(a),
+        Callee::Trunk(_, a) => wide_32(a),
+        Callee::Resource(_, a) => wide_32(a),
+        Callee::Error(a) => wide_32(a),
+    }
+}
+
+fn routed_to(c: Callee, left: u8) -> Routed
+    ensures { λ r. ⌜ r ≡ routedTo c left ⌝ }
+{
+    Routed {
+        number: 0,
+        value: wide_8(left),
+        kind: box_kind(c),
+        box_number: box_number(c),
+        address: box_address(c),
+    }
+}
+
+fn not_routed(r: Refusal) -> Routed
+    ensures { λ a. ⌜ a ≡ notRouted r ⌝ }
+{
+    Routed {
+        number: r.number() as u64,
+        value: place_number(r.place()),
+        kind: 0,
+        box_number: 0,
+        address: 0,
+    }
+}
+
+// What routing gave: the setup received into the room, where the setup was routed.
+fn received(a: routing::Answer, room: &mut [u8; 110]) -> Routed
+    ensures { λ r. ⌜ (r ≡ routedSaid (a .outcome) (a .left)) × (now (room .exit) ≡ routedRoom (a .outcome) (a .setup) (now (room .entry))) ⌝ }
+{
+    let outcome = a.outcome;
+    let setup = a.setup;
+    match outcome {
+        routing::Outcome::Routed(c) => {
+            *room = setupbytes::setup_bytes(setup);
+            routed_to(c, a.left)
+        }
+        routing::Outcome::Refused(r) => not_routed(r),
+    }
+}
+
+// A setup routed: the callee box, and the setup that it receives, in the room; the two zones in the two lists.
+#[no_mangle]
+pub extern "C" fn dfc_route(
+    file: &[u8],
+    setup: &[u8],
+    source_list: &mut [u8],
+    target_list: &mut [u8],
+    room: &mut [u8; 110],
+) -> Routed
+    ensures { λ r. ⌜ (r ≡ routed (now (file .entry)) (now (setup .entry)) (length (now («source_list» .entry))) (length (now («target_list» .entry))))
+        × (now («source_list» .exit) ≡ sourceRouted (now (file .entry)) (now (setup .entry)) (length (now («source_list» .entry))) (length (now («target_list» .entry))) (now («source_list» .entry)))
+        × (now («target_list» .exit) ≡ targetRouted (now (file .entry)) (now (setup .entry)) (length (now («source_list» .entry))) (length (now («target_list» .entry))) (now («target_list» .entry)))
+        × (now (room .exit) ≡ roomRouted (now (file .entry)) (now (setup .entry)) (length (now («source_list» .entry))) (length (now («target_list» .entry))) (now (room .entry))) ⌝ }
+{
+    let reading = planread::read(file);
+    let verdict = reading.answer;
+    let plan = reading.plan;
+    match verdict {
+        Verdict::Sound => {
+            let out = setupbytes::setup_in(setup);
+            let a = routing::route(plan, out, source_list, target_list);
+            received(a, room)
+        }
+        Verdict::Refused(r) => not_routed(r),
+    }
+}

@@ -1,0 +1,463 @@
+/* The peer: document 01's operations as a C programmer would write them. PEER_FAULT seeds one of the faults that host/test has to find. */
+#include "peer.h"
+#include <stdbool.h>
+#include <string.h>
+
+#ifndef PEER_FAULT
+#define PEER_FAULT 0
+#endif
+#define FAULT(n) (PEER_FAULT == (n))
+
+#define MAX_ADDRESS 999999999u
+#define MAX_SUBSCRIBERS 256
+
+typedef struct {
+    uint8_t kind, boxes;
+    uint16_t box[4];
+    uint32_t address, source, target;
+} subscriber;
+
+typedef struct {
+    uint32_t existing, bound, reversible, choice[2];
+    uint32_t order[2][32];
+    unsigned count;
+    subscriber sub[MAX_SUBSCRIBERS];
+} plan;
+
+typedef struct {
+    int region; /* DFC_SOURCE or DFC_TARGET */
+    uint32_t source, target;
+    uint8_t string_len, string[32];
+    enum { WHOLE, SUFFIX, LISTED } route;
+    uint8_t list_len, list[32];
+    bool has_placing, has_outer;
+    uint8_t placing;
+    uint32_t outer;
+} setup;
+
+static dfc_answer answer(uint64_t number, uint64_t value) { return (dfc_answer){number, value}; }
+static bool within(uint32_t a, uint32_t b) { return (a & ~b) == 0; }
+static bool member(uint32_t set, unsigned t) { return t < 32 && (set >> t & 1); }
+static uint32_t get4(const uint8_t *b) { return (uint32_t)b[0] << 24 | (uint32_t)b[1] << 16 | (uint32_t)b[2] << 8 | b[3]; }
+static uint32_t get2(const uint8_t *b) { return (uint32_t)b[0] << 8 | b[1]; }
+static uint8_t *put2(uint8_t *b, uint32_t n) { b[0] = (uint8_t)(n >> 8), b[1] = (uint8_t)n; return b + 2; }
+static uint8_t *put4(uint8_t *b, uint32_t n) { return put2(put2(b, n >> 16), n & 0xffff); }
+static uint8_t *header(uint8_t *b, uint8_t tag, uint32_t n) { *b = tag; return put2(b + 1, n); }
+
+/* ---- the plan's rules */
+
+static bool types_sound(const plan *p) {
+    uint32_t both = p->choice[0] & p->choice[1];
+    return within(p->bound, p->existing) && within(p->reversible, p->existing) && within(p->choice[0], p->existing) &&
+           within(p->choice[1], p->existing) && within(p->reversible, both) && within(p->bound & both, p->reversible);
+}
+
+/* A row lies in the choice and is empty outside it, no type precedes itself, and the order is closed. */
+static bool order_sound(const uint32_t row[32], uint32_t choice) {
+    for (unsigned a = 0; a < 32; a++) {
+        if (!within(row[a], choice) || (row[a] != 0 && !member(choice, a)) || member(row[a], a)) return false;
+        for (uint32_t left = row[a]; left != 0; left &= left - 1)
+            if (!FAULT(1) && !within(row[__builtin_ctz(left)], row[a])) return false;
+    }
+    return true;
+}
+
+/* Any two different reversible types are ordered in the source order (and the other way round in the target order). */
+static bool reversible_ordered(const plan *p, bool with_target) {
+    for (uint32_t x = p->reversible; x != 0; x &= x - 1)
+        for (uint32_t y = x & (x - 1); y != 0; y &= y - 1) {
+            unsigned a = (unsigned)__builtin_ctz(x), b = (unsigned)__builtin_ctz(y);
+            bool ab = member(p->order[0][a], b), ba = member(p->order[0][b], a);
+            if (!with_target && !ab && !ba) return false;
+            if (with_target && ((ab && !member(p->order[1][b], a)) || (ba && !member(p->order[1][a], b)))) return false;
+        }
+    return true;
+}
+
+/* kind_of[n]: the kind of the boxes with the number n so far. */
+static bool subscriber_sound(const plan *p, const subscriber *s, uint32_t last, const uint8_t kind_of[65536]) {
+    static const uint8_t least[5] = {0, 1, 0, 1, 0}, most[5] = {0, 1, 4, 4, 0};
+    if (s->kind < 1 || s->kind > 4 || s->address == 0 || s->address > MAX_ADDRESS) return false;
+    if (s->boxes < least[s->kind] || s->boxes > most[s->kind]) return false;
+    if (!within(s->source, p->choice[0]) || !within(s->target, p->choice[1])) return false;
+    if (!FAULT(2) && (s->source & p->reversible) != (s->target & p->reversible)) return false;
+    if (s->address <= last) return false;
+    for (unsigned i = 0; i < s->boxes; i++) {
+        uint8_t of = kind_of[s->box[i]];
+        if (s->box[i] == 0 || (of != 0 && (of != s->kind || s->kind == 1))) return false;
+        for (unsigned j = 0; j < i; j++)
+            if (s->box[j] == s->box[i]) return false;
+    }
+    return true;
+}
+
+/* ---- the plan file */
+
+static bool length_possible(uint8_t tag, uint32_t n) {
+    switch (tag) {
+    case 1: return n == 1;
+    case 2: return n == 20;
+    case 3:
+    case 4: return n == 128;
+    case 5: return n >= 13 && n <= 21 && n % 2 == 1;
+    default: return n == 0;
+    }
+}
+
+static dfc_answer read_plan(const uint8_t *file, size_t size, plan *p) {
+    static const uint8_t fixed[4] = {1, 2, 3, 4};
+    uint8_t kind_of[65536];
+    uint32_t last = 0;
+    size_t at = 0;
+    memset(p, 0, offsetof(plan, sub));
+    for (unsigned stage = 0;;) {
+        const uint8_t *f = file + at;
+        if (size - at < 3) return answer(20, at);
+        uint8_t tag = f[0];
+        if (stage < 4 ? tag != fixed[stage] : tag != 5 && tag != 127) return answer(21, at);
+        if (tag == 5 && p->count == MAX_SUBSCRIBERS) return answer(24, at);
+        uint32_t n = get2(f + 1);
+        if (!length_possible(tag, n)) return answer(22, at);
+        if (size - at - 3 < n) return answer(20, at);
+        f += 3;
+        switch (tag) {
+        case 1:
+            if (f[0] != 1) return answer(23, at);
+            break;
+        case 2:
+            p->existing = get4(f), p->bound = get4(f + 4), p->reversible = get4(f + 8);
+            p->choice[0] = get4(f + 12), p->choice[1] = get4(f + 16);
+            if (!types_sound(p)) return answer(23, at);
+            break;
+        case 3:
+        case 4:
+            for (unsigned t = 0; t < 32; t++) p->order[tag - 3][t] = get4(f + 4 * t);
+            if (!order_sound(p->order[tag - 3], p->choice[tag - 3]) || !reversible_ordered(p, tag == 4)) return answer(23, at);
+            if (tag == 4) memset(kind_of, 0, sizeof kind_of);
+            break;
+        case 5: {
+            subscriber *s = &p->sub[p->count];
+            s->kind = f[0], s->address = get4(f + 1), s->source = get4(f + 5), s->target = get4(f + 9);
+            s->boxes = (uint8_t)((n - 13) / 2);
+            for (unsigned i = 0; i < s->boxes; i++) s->box[i] = (uint16_t)get2(f + 13 + 2 * i);
+            if (!subscriber_sound(p, s, last, kind_of)) return answer(23, at);
+            for (unsigned i = 0; i < s->boxes; i++) kind_of[s->box[i]] = s->kind;
+            last = s->address;
+            p->count++;
+            break;
+        }
+        default:
+            at += 3;
+            return at < size ? answer(20, at) : answer(0, 0);
+        }
+        at += 3 + n;
+        if (stage < 4) stage++;
+    }
+}
+
+dfc_answer peer_check(const uint8_t *file, size_t file_size) {
+    plan p;
+    return read_plan(file, file_size, &p);
+}
+
+dfc_answer peer_write(const uint8_t *file, size_t file_size, uint8_t *room, size_t room_size) {
+    plan p;
+    dfc_answer a = read_plan(file, file_size, &p);
+    if (a.number != 0) return a;
+    size_t size = 4 + 23 + 131 + 131 + 3;
+    for (unsigned i = 0; i < p.count; i++) size += 16 + 2u * p.sub[i].boxes;
+    if (room_size < size - (FAULT(3) ? 1 : 0)) return answer(25, 0);
+    if (FAULT(3) && room_size < size) return answer(0, size);
+    uint8_t *b = header(room, 1, 1);
+    *b++ = 1;
+    b = header(b, 2, 20);
+    b = put4(put4(put4(put4(put4(b, p.existing), p.bound), p.reversible), p.choice[0]), p.choice[1]);
+    for (unsigned r = 0; r < 2; r++) {
+        b = header(b, (uint8_t)(3 + r), 128);
+        for (unsigned t = 0; t < 32; t++) b = put4(b, p.order[r][t]);
+    }
+    for (unsigned i = 0; i < p.count; i++) {
+        const subscriber *s = &p.sub[i];
+        b = header(b, 5, 13 + 2u * s->boxes);
+        *b++ = s->kind;
+        b = put4(put4(put4(b, s->address), s->source), s->target);
+        for (unsigned j = 0; j < s->boxes; j++) b = put2(b, s->box[j]);
+    }
+    header(b, 127, 0);
+    return answer(0, size);
+}
+
+/* ---- zones */
+
+static const subscriber *find(const plan *p, uint32_t address) {
+    unsigned low = 0, high = p->count;
+    while (low < high) {
+        unsigned mid = (low + high) / 2;
+        if (p->sub[mid].address < address) low = mid + 1;
+        else high = mid;
+    }
+    return low < p->count && p->sub[low].address == address ? &p->sub[low] : NULL;
+}
+
+/* The zone into 32 places, 0 past its length; its length. */
+static uint8_t zone(const plan *p, int region, uint32_t address, uint8_t types[32]) {
+    const subscriber *s = find(p, address);
+    uint32_t left = s == NULL ? 0 : region == DFC_SOURCE ? s->source : s->target;
+    const uint32_t *row = p->order[region];
+    uint8_t n = 0;
+    memset(types, 0, 32);
+    while (left != 0) {
+        uint32_t behind = 0;
+        for (uint32_t x = left; x != 0; x &= x - 1) behind |= row[__builtin_ctz(x)];
+        uint32_t first = FAULT(4) ? left : left & ~behind;
+        unsigned t = (unsigned)__builtin_ctz(first);
+        types[n++] = (uint8_t)t;
+        left &= ~((uint32_t)1 << t);
+    }
+    return n;
+}
+
+dfc_answer peer_zone(const uint8_t *file, size_t file_size, uint8_t region, uint32_t address, uint8_t types[32]) {
+    plan p;
+    dfc_answer a = read_plan(file, file_size, &p);
+    if (a.number != 0) return a;
+    return answer(0, zone(&p, region == 0 ? DFC_SOURCE : DFC_TARGET, address, types));
+}
+
+/* ---- setups */
+
+static bool is_header(const uint8_t *b, uint8_t tag, uint32_t n) { return b[0] == tag && get2(b + 1) == n; }
+
+/* false for bytes that are no setup's. */
+static bool read_setup(const uint8_t *b, size_t size, setup *s) {
+    if (size != DFC_SETUP) return false;
+    if (!is_header(b, 1, 1) || !is_header(b + 4, 2, 4) || !is_header(b + 11, 3, 4) || !is_header(b + 18, 4, 1) ||
+        !is_header(b + 22, 5, 2) || !is_header(b + 27, 6, 5) || !is_header(b + 35, 7, 33) || !is_header(b + 71, 8, 33) ||
+        !is_header(b + 107, 127, 0))
+        return false;
+    if (b[3] < 1 || b[3] > 2 || b[21] < 1 || b[21] > 3 || b[25] > 1 || b[30] > 1) return false;
+    if (b[25] == 0 && b[26] != 0) return false;
+    if (b[30] == 0 && get4(b + 31) != 0) return false;
+    s->region = b[3] == 1 ? DFC_SOURCE : DFC_TARGET;
+    s->source = get4(b + 7), s->target = get4(b + 14);
+    s->route = b[21] == 1 ? WHOLE : b[21] == 2 ? SUFFIX : LISTED;
+    s->has_placing = b[25] == 1, s->placing = b[26];
+    s->has_outer = b[30] == 1, s->outer = get4(b + 31);
+    s->string_len = b[38], s->list_len = b[74];
+    memcpy(s->string, b + 39, 32);
+    memcpy(s->list, b + 75, 32);
+    return true;
+}
+
+static void write_setup(const setup *s, uint8_t *b) {
+    b = header(b, 1, 1);
+    *b++ = s->region == DFC_SOURCE ? 1 : 2;
+    b = put4(header(b, 2, 4), s->source);
+    b = put4(header(b, 3, 4), s->target);
+    b = header(b, 4, 1);
+    *b++ = s->route == WHOLE ? 1 : s->route == SUFFIX ? 2 : 3;
+    b = header(b, 5, 2);
+    *b++ = s->has_placing, *b++ = s->has_placing ? s->placing : 0;
+    b = header(b, 6, 5);
+    *b++ = s->has_outer;
+    b = put4(b, s->has_outer ? s->outer : 0);
+    b = header(b, 7, 33);
+    *b++ = s->string_len;
+    memcpy(b, s->string, 32);
+    b = header(b + 32, 8, 33);
+    *b++ = s->list_len;
+    memcpy(b, s->list, 32);
+    header(b + 32, 127, 0);
+}
+
+static bool legal_string(const uint8_t *s, size_t n) {
+    if (n > 32) return false;
+    for (size_t i = 0; i < n; i++)
+        if (!((s[i] >= '0' && s[i] <= '9') || s[i] == '*' || s[i] == '#')) return false;
+    return true;
+}
+
+static uint32_t routing_address(const setup *s) { return s->region == DFC_SOURCE ? s->source : s->target; }
+
+static bool well_formed(const plan *p, const setup *s) {
+    if (s->source > MAX_ADDRESS || s->target > MAX_ADDRESS || (s->has_outer && s->outer > MAX_ADDRESS)) return false;
+    if (!legal_string(s->string, s->string_len)) return false;
+    if (routing_address(s) == 0) return false;
+    if (s->route == LISTED) {
+        uint8_t all[32], n = zone(p, s->region, routing_address(s), all);
+        if (s->list_len > n || memcmp(s->list, all + (n - s->list_len), s->list_len) != 0) return false;
+    }
+    if (s->route == SUFFIX ? !s->has_placing || !member(p->reversible, s->placing) : s->has_placing) return false;
+    if (s->has_outer && ((s->region == DFC_TARGET && !FAULT(5)) || s->outer == 0)) return false;
+    return true;
+}
+
+static void set_string(setup *s, const uint8_t *string, size_t n) {
+    memset(s->string, 0, 32);
+    memcpy(s->string, string, n);
+    s->string_len = (uint8_t)n;
+}
+
+/* The refusals 1, 2 and 3 of a box that makes a setup; 0 for none. */
+static unsigned maker_refused(const plan *p, uint8_t kind, uint8_t type, uint32_t address, bool fresh) {
+    const subscriber *s = find(p, address);
+    if (kind == DFC_FEATURE && !member(p->existing, type)) return 1;
+    if (kind > DFC_TRUNK || (!fresh && kind != DFC_FEATURE)) return 2;
+    if (s == NULL || (kind != DFC_FEATURE && s->kind != kind)) return 3;
+    return 0;
+}
+
+dfc_answer peer_new(const uint8_t *file, size_t file_size, uint8_t kind, uint8_t type, uint32_t address, const uint8_t *string,
+                    size_t string_size, uint32_t target, uint8_t made[DFC_SETUP]) {
+    plan p;
+    setup s = {0};
+    dfc_answer a = read_plan(file, file_size, &p);
+    if (a.number != 0) return a;
+    unsigned no = maker_refused(&p, kind, type, address, true);
+    if (no != 0) return answer(no, 0);
+    if (!legal_string(string, string_size)) return answer(7, 0);
+    if (target > MAX_ADDRESS) return answer(9, 0);
+    s.region = DFC_SOURCE, s.route = WHOLE;
+    s.source = address, s.target = target;
+    s.has_outer = true, s.outer = address;
+    set_string(&s, string, string_size);
+    write_setup(&s, made);
+    return answer(0, DFC_SETUP);
+}
+
+/* What continued and reversed share: from the setup stored to the one made, in the region `to`. */
+static void further(const setup *from, setup *s, int to, bool reversing, uint8_t type, uint32_t address, uint32_t source,
+                    const uint8_t *string, size_t string_size, uint32_t target) {
+    uint32_t given = to == DFC_SOURCE ? source : target, other = to == DFC_SOURCE ? target : source, kept;
+    if (reversing) kept = to == DFC_SOURCE ? from->source : from->target;
+    else kept = to == DFC_SOURCE ? from->target : from->source;
+    if (FAULT(6) && reversing) kept = to == DFC_SOURCE ? from->target : from->source;
+    if (other == 0) other = kept;
+    uint32_t routed = given != 0 ? given : address;
+    memset(s, 0, sizeof *s);
+    s->region = to;
+    s->source = to == DFC_SOURCE ? routed : other;
+    s->target = to == DFC_SOURCE ? other : routed;
+    if (given != 0) {
+        s->route = WHOLE;
+        s->has_outer = to == DFC_SOURCE || FAULT(7), s->outer = address;
+    } else if (reversing) {
+        s->route = SUFFIX;
+        s->has_placing = true, s->placing = type;
+    } else {
+        s->route = LISTED;
+        s->list_len = from->list_len;
+        memcpy(s->list, from->list, from->list_len);
+    }
+    if (string_size != 0) set_string(s, string, string_size);
+    else set_string(s, from->string, from->string_len);
+}
+
+dfc_answer peer_continued(const uint8_t *file, size_t file_size, uint8_t kind, uint8_t type, uint32_t address, const uint8_t *received,
+                          size_t received_size, uint32_t source, const uint8_t *string, size_t string_size, uint32_t target,
+                          uint8_t made[DFC_SETUP]) {
+    plan p;
+    setup from, s;
+    dfc_answer a = read_plan(file, file_size, &p);
+    if (a.number != 0) return a;
+    unsigned no = maker_refused(&p, kind, type, address, false);
+    if (no != 0) return answer(no, 0);
+    if (!read_setup(received, received_size, &from) || !well_formed(&p, &from) || from.route != LISTED) return answer(5, 0);
+    if (routing_address(&from) != address) return answer(6, 0);
+    if (!legal_string(string, string_size)) return answer(7, 0);
+    uint32_t given = from.region == DFC_SOURCE ? source : target;
+    if (given != 0 && given == address) return answer(8, 0);
+    if (source > MAX_ADDRESS || target > MAX_ADDRESS) return answer(9, 0);
+    further(&from, &s, from.region, false, type, address, source, string, string_size, target);
+    write_setup(&s, made);
+    return answer(0, DFC_SETUP);
+}
+
+dfc_answer peer_reversed(const uint8_t *file, size_t file_size, uint8_t kind, uint8_t type, uint32_t address, const uint8_t *sent,
+                         size_t sent_size, uint32_t source, const uint8_t *string, size_t string_size, uint32_t target,
+                         uint8_t made[DFC_SETUP]) {
+    plan p;
+    setup from, s;
+    dfc_answer a = read_plan(file, file_size, &p);
+    if (a.number != 0) return a;
+    unsigned no = maker_refused(&p, kind, type, address, false);
+    if (no != 0) return answer(no, 0);
+    if (!member(p.reversible, type)) return answer(4, 0);
+    if (!read_setup(sent, sent_size, &from) || !well_formed(&p, &from)) return answer(5, 0);
+    if (!legal_string(string, string_size)) return answer(7, 0);
+    int to = from.region == DFC_SOURCE ? DFC_TARGET : DFC_SOURCE;
+    uint32_t given = to == DFC_SOURCE ? source : target;
+    if (given != 0 && given == address) return answer(8, 0);
+    if (source > MAX_ADDRESS || target > MAX_ADDRESS) return answer(9, 0);
+    further(&from, &s, to, true, type, address, source, string, string_size, target);
+    write_setup(&s, made);
+    return answer(0, DFC_SETUP);
+}
+
+/* ---- routing */
+
+/* The address that a string embeds, or 0. */
+static uint32_t embedded(const uint8_t *s, size_t n) {
+    if (n >= 3 && s[0] == '*' && s[1] >= '0' && s[1] <= '9' && s[2] >= '0' && s[2] <= '9') s += 3, n -= 3;
+    if (n < 1 || n > (FAULT(8) ? 10 : 9)) return 0;
+    uint32_t a = 0;
+    for (size_t i = 0; i < n; i++) {
+        if (s[i] < '0' || s[i] > '9') return 0;
+        a = a * 10 + (uint32_t)(s[i] - '0');
+    }
+    return a;
+}
+
+dfc_routed peer_route(const uint8_t *file, size_t file_size, const uint8_t *sent, size_t sent_size, uint8_t *source_list,
+                      size_t source_size, uint8_t *target_list, size_t target_size, uint8_t received[DFC_SETUP]) {
+    plan p;
+    setup s;
+    uint8_t zones[2][32], length[2];
+    dfc_answer a = read_plan(file, file_size, &p);
+    if (a.number != 0) return (dfc_routed){a.number, a.value, 0, 0, 0};
+    if (!read_setup(sent, sent_size, &s) || !well_formed(&p, &s)) return (dfc_routed){5, 0, 0, 0, 0};
+    if (source_size < 32 || target_size < 32) return (dfc_routed){18, 0, 0, 0, 0};
+    if (s.target == 0) s.target = embedded(s.string, s.string_len);
+    length[0] = zone(&p, DFC_SOURCE, s.source, zones[0]);
+    length[1] = zone(&p, DFC_TARGET, s.target, zones[1]);
+    memcpy(source_list, zones[0], length[0]);
+    memcpy(target_list, zones[1], length[1]);
+    /* what is left is the end part of a zone from `from` on */
+    int r = s.region;
+    unsigned from = 0;
+    if (s.route == LISTED) from = (unsigned)length[r] - s.list_len;
+    if (s.route == SUFFIX)
+        for (unsigned i = 0; i < length[r]; i++)
+            if (zones[r][i] == s.placing) {
+                from = i + (FAULT(9) ? 0 : 1);
+                break;
+            }
+    bool has_outer = s.has_outer;
+    if (r == DFC_SOURCE && from == length[r]) {
+        r = DFC_TARGET;
+        from = 0;
+        if (!FAULT(10)) has_outer = false;
+    }
+    dfc_routed to = {0, 0, DFC_ERROR, 0, s.target};
+    setup got = s;
+    got.region = r;
+    got.route = LISTED;
+    got.has_placing = false;
+    got.has_outer = has_outer;
+    set_string(&got, s.string, s.string_len);
+    memset(got.list, 0, 32);
+    got.list_len = 0;
+    if (from < length[r]) {
+        to.kind = DFC_FEATURE;
+        to.box_number = zones[r][from];
+        to.address = r == DFC_SOURCE ? s.source : s.target;
+        got.list_len = (uint8_t)(length[r] - from - 1);
+        memcpy(got.list, zones[r] + from + 1, got.list_len);
+        to.value = got.list_len;
+    } else {
+        const subscriber *x = find(&p, s.target);
+        if (x != NULL && x->boxes != 0) to.kind = x->kind, to.box_number = x->box[0];
+    }
+    write_setup(&got, received);
+    return to;
+}

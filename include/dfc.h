@@ -1,0 +1,110 @@
+/* dfc.h: Plaivoreh's call-routing core for C programs.
+ *
+ * The archive libdfc.a (made by `rt staticlib dfc`, for x86-64 Linux) has the functions below. Each is proved to give exactly
+ * the answer that document 01 gives, for any bytes and any numbers: no call crashes, hangs, allocates, keeps state between calls
+ * or looks at memory that it was not lent.
+ *
+ * MEMORY. The caller owns all of it. A function reads and writes only what is lent to it, for as long as the call lasts, and keeps
+ * nothing. A run of bytes is lent as a pointer and a length; a pointer may be anything but null, also where the length is 0.
+ * Memory that a function may write (a parameter without const) must not overlap any other that is lent to the same call.
+ * A refusal leaves all lent memory as it was.
+ * STACK. Have 256 kB of stack free for a call.
+ * THREADS. Calls on different memory may run at the same time.
+ *
+ * ANSWERS. number 0: accepted, and value is what the function says. Any other number is a refusal of document 01:
+ *    1  feature box whose type does not exist          9  an address argument above 999,999,999
+ *    2  a box that may not make this setup            18  a list shorter than 32
+ *    3  the box's address: not in the plan, or not    20  plan file cut short, or bytes after its end
+ *       of that kind                                  21  a tag not allowed here
+ *    4  reversed by a type that is not reversible     22  a length that the tag never has
+ *    5  setup not well formed, bytes that are no      23  a rule of the plan is broken
+ *       setup, or continued from no list              24  the 257th subscriber
+ *    6  continued by a box it is not routed to        25  room too short for the plan file (place 0)
+ *    7  string too long, or with another symbol
+ *    8  the new routing address is the box's own
+ * For 20 to 25 value is the place: in a plan file the first byte of the field, counted from 0. For the others it is 0.
+ * Of several refusals the plan file's comes first, then the lowest number; routing has 5 before 18.
+ *
+ * EXAMPLE (host/example.c is this, whole):
+ *
+ *    uint8_t sent[DFC_SETUP], got[DFC_SETUP], source[32], target[32];
+ *    dfc_answer a = dfc_new(plan, plan_size, DFC_LINE, 0, 200, (const uint8_t *)"300", 3, 0, sent);
+ *    if (a.number != 0) return refused(a.number);
+ *    dfc_routed r = dfc_route(plan, plan_size, sent, DFC_SETUP, source, 32, target, 32, got);
+ *    if (r.number == 0) printf("type %llu at %llu, %llu left\n", r.box_number, r.address, r.value);
+ */
+#ifndef DFC_H
+#define DFC_H
+#include <stddef.h>
+#include <stdint.h>
+#ifdef __cplusplus
+extern "C" {
+#endif
+
+/* Kinds of box, as a maker of setups and as the box that a setup is routed to. */
+enum { DFC_FEATURE = 0, DFC_LINE = 1, DFC_TRUNK = 2, DFC_RESOURCE = 3, DFC_ERROR = 4 };
+/* Regions. */
+enum { DFC_SOURCE = 0, DFC_TARGET = 1 };
+
+/* A setup is 110 bytes: tagged fields, a tag of one byte, a length of two, numbers high byte first.
+ *    offset  tag length  body
+ *         0    1      1  region: 1 source, 2 target
+ *         4    2      4  source address
+ *        11    3      4  target address
+ *        18    4      1  route: 1 whole, 2 suffix, 3 a list
+ *        22    5      2  placing type: 0 0 for none, or 1 and the type
+ *        27    6      5  outer address: 0 and 0 for none, or 1 and the address
+ *        35    7     33  the string: how many symbols (0 to 32), then 32 places, as ASCII 0-9 * #
+ *        71    8     33  the list: how many types (0 to 32), then 32 places
+ *       107  127      0
+ * What stands in a place past a string's or list's length does not count; setups made here have 0 there.
+ * Bytes that are not of this form, or not 110, are refused with 5. */
+#define DFC_SETUP 110
+
+typedef struct {
+    uint64_t number; /* 0, or the refusal */
+    uint64_t value;  /* as each function says; or the refusal's place */
+} dfc_answer;
+
+typedef struct {
+    uint64_t number;     /* 0, or the refusal */
+    uint64_t value;      /* how many types are left in the setup received; or the refusal's place */
+    uint64_t kind;       /* of the callee box: DFC_FEATURE .. DFC_ERROR; 0 for a refusal */
+    uint64_t box_number; /* a feature box's type, an interface box's number, 0 for the error box */
+    uint64_t address;    /* the address of the box; of the error box, the address that leads to it */
+} dfc_routed;
+
+/* Whether these bytes are a plan file. value 0. Refusals 20 to 24. */
+dfc_answer dfc_check(const uint8_t *file, size_t file_size);
+
+/* The plan of a file written again into the room; value: how many bytes. The bytes of the room past them stay. Refusals 20 to 25. */
+dfc_answer dfc_write(const uint8_t *file, size_t file_size, uint8_t *room, size_t room_size);
+
+/* The zone of an address in a region (0 source, else target): types[0] to types[value - 1], and 0 in the places left.
+ * An address that nobody has, and 0, have an empty zone. Refusals 20 to 24. */
+dfc_answer dfc_zone(const uint8_t *file, size_t file_size, uint8_t region, uint32_t address, uint8_t types[32]);
+
+/* A new setup by a box: kind DFC_FEATURE with its type and address, DFC_LINE or DFC_TRUNK with the source address it names; a resource
+ * and the error box (any kind above 3) may make none. string has string_size symbols; target is 0 for none. value DFC_SETUP, and the setup in made. */
+dfc_answer dfc_new(const uint8_t *file, size_t file_size, uint8_t kind, uint8_t type, uint32_t address, const uint8_t *string,
+                   size_t string_size, uint32_t target, uint8_t made[DFC_SETUP]);
+
+/* A setup that the feature box received, continued. source, string and target are arguments, 0 or empty for none. */
+dfc_answer dfc_continued(const uint8_t *file, size_t file_size, uint8_t kind, uint8_t type, uint32_t address, const uint8_t *received,
+                         size_t received_size, uint32_t source, const uint8_t *string, size_t string_size, uint32_t target,
+                         uint8_t made[DFC_SETUP]);
+
+/* A setup that the feature box once sent, reversed. */
+dfc_answer dfc_reversed(const uint8_t *file, size_t file_size, uint8_t kind, uint8_t type, uint32_t address, const uint8_t *sent,
+                        size_t sent_size, uint32_t source, const uint8_t *string, size_t string_size, uint32_t target,
+                        uint8_t made[DFC_SETUP]);
+
+/* A setup routed: the callee box, and in received the setup that it gets. source_list and target_list, 32 bytes or more each, are given the
+ * source's zone and the target's; their bytes past these stay. */
+dfc_routed dfc_route(const uint8_t *file, size_t file_size, const uint8_t *sent, size_t sent_size, uint8_t *source_list,
+                     size_t source_size, uint8_t *target_list, size_t target_size, uint8_t received[DFC_SETUP]);
+
+#ifdef __cplusplus
+}
+#endif
+#endif
