@@ -1,11 +1,11 @@
 -- Places of three bytes written and read one after the other. Assumes nothing.
-use mathlib.Core.Path.{_≡_, refl, sym, ap, _∙_}
+use mathlib.Core.Path.{_≡_, refl, ap, _∙_}
 use mathlib.Core.List.{List, [], _∷_, _++_, append-nil}
-use Prim.Native.Nat.{ℕ, zero, suc, _+_, _*_, _-_, _≤_, _<_, suc-le-suc}
+use Prim.Native.Nat.{ℕ, zero, suc, _+_, _*_, _-_, _≤_, _<_}
 use native.Mathlib.Nat.{le-of-suc-le-suc, not-suc-le-zero}
 use native.Mathlib.Numerals.{add-one}
 use native.Mathlib.Omega.{arith}
-use lib.ListN.{length, getD, set, take, drop, replicate, length-append, drop-of-length-le}
+use lib.ListN.{length, set, drop, replicate, length-append, drop-of-length-le}
 use lib.Seq.{sets, drop-cons, sets-eq}
 use Rattle.call.specs.declared.Slot.{Slot}
 use Rattle.call.specs.Protocol.{slot, blank, cleared}

@@ -13,8 +13,6 @@ use Rattle.call.specs.declared.Status.the-variants.{Unknown, Avail, Unavail, No
 use Rattle.call.specs.declared.Signal.{Signal}
 use Rattle.call.specs.declared.Signal.the-variants.{Upack, Ordinary, Teardown, Downack}
 use Rattle.call.specs.declared.Slot.{Slot}
-use Rattle.call.specs.declared.Queue.{Queue}
-use Rattle.call.specs.declared.End.{End}
 use Rattle.call.specs.declared.Call.{Call}
 use Rattle.call.specs.Protocol.{cleared}
 

@@ -2,7 +2,6 @@
 use Prim.Native.Nat.{ℕ}
 use mathlib.Core.List.{List}
 use lib.ListN.{length}
-use Rattle.plan.specs.declared.Plan.{Plan}
 use Rattle.zone.specs.Order.{held}
 use Rattle.zone.specs.Answer.{zoneAt}
 use Rattle.planread.specs.Reading.{readOf}
@@ -17,7 +16,7 @@ use Rattle.making.specs.declared.Answer.{Answer as Making}
 use Rattle.making.specs.Making.{newAnswer, continuedAnswer, reversedAnswer}
 use Rattle.setupbytes.specs.Codec.{setupBytes, setupIn}
 use Rattle.dfc.specs.declared.Answer.{Answer}
-use Rattle.dfc.specs.Said.{accepted, refusal, answerOver, lentOver, regionOf, makerOf}
+use Rattle.dfc.specs.Said.{accepted, refusal, answerOver, lentOver, regionOf}
 
 -- ---- the file itself
 

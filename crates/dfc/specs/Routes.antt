@@ -1,7 +1,6 @@
 -- What routing over a plan file answers, and what it leaves in lent memory. Assumes nothing.
 use Prim.Native.Nat.{ℕ}
 use mathlib.Core.List.{List}
-use lib.ListN.{length}
 use Rattle.refusal.specs.declared.Refusal.{Refusal}
 use Rattle.refusal.specs.Numbers.{numberOf, placeOf}
 use Rattle.plan.specs.declared.Verdict.{Verdict}

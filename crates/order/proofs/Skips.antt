@@ -1,6 +1,6 @@
 -- Where a test over all types can be left out: an empty row, and a type that is none of a set's. Assumes nothing.
-use mathlib.Core.Path.{_≡_, refl}
-use mathlib.Core.Bool.{Bool, true, false}
+use mathlib.Core.Path.{_≡_}
+use mathlib.Core.Bool.{true, false}
 use mathlib.Core.List.{List}
 use Prim.Native.Nat.{ℕ}
 use Rattle.typeset.specs.Sets.{has}

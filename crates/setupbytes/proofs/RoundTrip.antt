@@ -1,14 +1,13 @@
 -- Both round trips of the codec: any setup that a program holds comes back from its bytes, and bytes that are a setup's are its bytes. Assumes nothing.
 use mathlib.Core.Path.{_≡_, refl, sym, ap, ap₂, _∙_}
-use mathlib.Core.Bool.{Bool, true, false, _&&_, cond}
+use mathlib.Core.Bool.{true, false, _&&_}
 use mathlib.Core.List.{List, [], _∷_, _++_, append-assoc}
-use Prim.Native.Nat.{ℕ, _+_, _*_, _^_, _%_, _/_, _≤_, _<_}
+use Prim.Native.Nat.{ℕ, _^_, _<_}
 use native.Mathlib.Omega.{arith}
 use lib.Dec.{eqb}
 use lib.ListN.{length, getD, take, drop, length-append, length-take, length-drop}
 use lib.Seq.{take-at, drop-at, getD-drop, drop-drop, ext-getD}
 use borrow.Author.Tests.{eq-eqb, eqb-true}
-use Rattle.typeset.specs.Sets.{every}
 use Rattle.typeset.proofs.Below.{every-of, every-at}
 use Rattle.plan.specs.declared.Region.{Region}
 use Rattle.plan.specs.declared.Region.the-variants.{Source, Target}

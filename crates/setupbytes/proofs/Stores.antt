@@ -1,11 +1,11 @@
 -- Bytes stored one by one: into a room from a place on, and out of it into 32 places. Assumes nothing.
-use mathlib.Core.Path.{_≡_, refl, sym, ap, _∙_}
-use mathlib.Core.List.{List, [], _∷_, _++_, append-nil, append-assoc}
+use mathlib.Core.Path.{_≡_, refl, _∙_}
+use mathlib.Core.List.{List, [], _∷_, _++_, append-nil}
 use Prim.Native.Nat.{ℕ, _+_, _-_, _%_, _≤_, _<_}
 use native.Mathlib.Numerals.{add-one}
 use native.Mathlib.Omega.{arith}
 use lib.ListN.{length, getD, set, take, drop, replicate, length-take, length-drop, length-append, drop-of-length-le}
-use lib.Seq.{sets, drop-cons, getD-take, getD-drop, sets-eq}
+use lib.Seq.{sets, drop-cons, getD-take, getD-drop}
 use Rattle.zone.proofs.Held.{stores-pad}
 use Rattle.planbytes.specs.Numbers.{high}
 use Rattle.planbytes.specs.Format.{field}

@@ -8,8 +8,6 @@ use lib.ListN.{length, getD, take, drop}
 use Rattle.typeset.specs.Sets.{every}
 use Rattle.plan.specs.declared.Region.{Region}
 use Rattle.plan.specs.declared.Region.the-variants.{Source, Target}
-use Rattle.zone.specs.declared.Zone.{Zone}
-use Rattle.setup.specs.declared.Dialled.{Dialled}
 use Rattle.setup.specs.declared.Route.{Route}
 use Rattle.setup.specs.declared.Route.the-variants.{Whole, Suffix, Listed}
 use Rattle.setup.specs.declared.Placing.{Placing}

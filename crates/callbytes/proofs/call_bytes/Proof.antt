@@ -1,4 +1,4 @@
-use mathlib.Core.Path.{_≡_, refl}
+use mathlib.Core.Path.{refl}
 use mathlib.Core.List.{[], _∷_, _++_}
 use Rattle.planbytes.specs.Numbers.{high}
 use Rattle.callbytes.specs.Codec.{callBytes}

@@ -1,7 +1,7 @@
-use mathlib.Core.Path.{_≡_, refl, sym, ap, _∙_}
+use mathlib.Core.Path.{_≡_, refl, sym, _∙_}
 use native.Mathlib.Omega.{arith}
-use Prim.Native.Nat.{_≤_, _<_, _-_, _+_, _*_}
-use lib.ListN.{length, drop}
+use Prim.Native.Nat.{_≤_, _-_}
+use lib.ListN.{drop}
 use lib.Seq.{sets}
 use Rattle.callbytes.specs.Codec.{slotsFrom}
 use Rattle.callbytes.proofs.Slots.{slots-all, slots-next, slots-done}

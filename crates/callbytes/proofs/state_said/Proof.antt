@@ -1,5 +1,4 @@
 use borrow.Author.Tests.{eq-eqb, ne-eqb}
-use borrow.Author.Needs.{needs}
 use Rattle.callbytes.proofs.state_said.Statement.{statement}
 use Rattle.callbytes.proofs.state_said.Tie as tie
 use Rattle.callbytes.proofs.state_said.Reads as reads

@@ -1,4 +1,4 @@
-use mathlib.Core.Path.{_≡_, sym, ap, _∙_}
+use mathlib.Core.Path.{_≡_, sym}
 use Rattle.order.proofs.Skips.{closed-empty}
 use borrow.Author.Needs.{needs}
 use Rattle.order.proofs.row_closed.Statement.{statement}

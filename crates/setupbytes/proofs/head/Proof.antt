@@ -1,5 +1,4 @@
 use Rattle.setupbytes.specs.Codec.{head}
-use mathlib.Core.Path.{_∙_}
 use borrow.Author.Needs.{needs}
 use Rattle.setupbytes.proofs.head.Statement.{statement}
 use Rattle.setupbytes.proofs.head.Tie as tie

@@ -1,7 +1,7 @@
-use mathlib.Core.Path.{_≡_, refl, sym, _∙_}
+use mathlib.Core.Path.{_≡_, sym, _∙_}
 use native.Mathlib.Omega.{arith}
-use Prim.Native.Nat.{_+_, _-_, _≤_}
-use lib.ListN.{length, drop, take}
+use Prim.Native.Nat.{_-_, _≤_}
+use lib.ListN.{drop, take}
 use lib.Seq.{sets}
 use Rattle.setupbytes.proofs.Stores.{taken-all, taken-next, taken-done}
 use borrow.Author.Needs.{needs}

@@ -1,4 +1,4 @@
-use mathlib.Core.Path.{_≡_, sym}
+use mathlib.Core.Path.{_≡_}
 use lib.ListN.{length}
 use Rattle.setupbytes.specs.Codec.{setupBytes}
 use Rattle.setupbytes.proofs.Stores.{built}
