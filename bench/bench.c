@@ -112,22 +112,32 @@ static void take(void (*plan)(void)) {
     if (a.number) printf("setup refused: %llu\n", (unsigned long long)a.number), exit(1);
 }
 
+static void named_row(const char *operation, const char *plan, void (*ours)(void), void (*peer)(void)) {
+    char name[64];
+    snprintf(name, sizeof name, "%s, %s", operation, plan);
+    row(name, ours, peer);
+}
+
+static void file_rows(const char *plan) {
+    named_row("check", plan, ours_check, peer_check_once);
+    named_row("write", plan, ours_write, peer_write_once);
+}
+
+static void setup_rows(const char *plan) {
+    named_row("zone", plan, ours_zone, peer_zone_once);
+    named_row("new", plan, ours_new, peer_new_once);
+    named_row("route", plan, ours_route, peer_route_once);
+}
+
 int main(void) {
     printf("| operation                          |   ours ns |   peer ns | ratio | stack B |  peer B |\n|---|---|---|---|---|---|\n");
     take(teaching);
-    row("check, teaching plan", ours_check, peer_check_once);
-    row("write, teaching plan", ours_write, peer_write_once);
-    row("zone, teaching plan", ours_zone, peer_zone_once);
-    row("new, teaching plan", ours_new, peer_new_once);
-    row("route, teaching plan", ours_route, peer_route_once);
+    file_rows("teaching plan");
+    setup_rows("teaching plan");
     take(many);
-    row("check, 256 subscribers", ours_check, peer_check_once);
-    row("write, 256 subscribers", ours_write, peer_write_once);
-    row("zone, 256 subscribers", ours_zone, peer_zone_once);
-    row("new, 256 subscribers", ours_new, peer_new_once);
-    row("route, 256 subscribers", ours_route, peer_route_once);
+    file_rows("256 subscribers");
+    setup_rows("256 subscribers");
     take(trunks);
-    row("check, 256 trunks with 4 boxes", ours_check, peer_check_once);
-    row("write, 256 trunks with 4 boxes", ours_write, peer_write_once);
+    file_rows("256 trunks with 4 boxes");
     return sink == 42;
 }

@@ -1,3 +1,4 @@
+-- `callbytes::call_at` meets its contract. Assumes nothing.
 use mathlib.Core.Path.{sym, _∙_}
 use borrow.Author.Tests.{lt-ltb, le-ltb}
 use Rattle.callbytes.specs.Codec.{callAt}
@@ -5,37 +6,26 @@ use Rattle.callbytes.proofs.Slots.{past-end}
 use borrow.Author.Needs.{needs}
 use Rattle.callbytes.proofs.call_at.Statement.{statement}
 use Rattle.callbytes.proofs.call_at.Tie as tie
-use Rattle.callbytes.proofs.call_at.Reads as reads
-use Rattle.callbytes.proofs.call_at.Lts as lts
-use Rattle.call.proofs.Call.cleared.Reads as cleared-reads
-use Rattle.callbytes.proofs.read_from.Reads as read-from-reads
 
--- src/lib.rt:277:9
 cleared-requires : tie.Need-cleared-requires
 cleared-requires c κs = search needs
 
--- src/lib.rt:277:9
 returns : tie.Need-returns
 returns c = c .cleared .ensures ∙ sym (past-end (c .before .before .before .args .b .now) (c .before .before .before .args .at) (c .before .if1 .taken))
 
--- src/lib.rt:279:8
 sub-if2 : tie.Need-sub-if2
 sub-if2 c = search needs
 
--- src/lib.rt:280:9
 cleared-requires-2 : tie.Need-cleared-requires-2
 cleared-requires-2 c κs = search needs
 
--- src/lib.rt:280:9
 returns-2 : tie.Need-returns-2
 unfolding callAt
 returns-2 c = rw (lt-ltb _ 102 (c .before .if2 .taken)) (c .cleared2 .ensures)
 
--- src/lib.rt:282:5
 read-from-requires : tie.Need-read-from-requires
 read-from-requires c κs = search needs
 
--- src/lib.rt:273:1
 returns-3 : tie.Need-returns-3
 unfolding callAt
 returns-3 c = rw (le-ltb _ 102 (c .before .if2 .left)) (c .read-from .ensures)

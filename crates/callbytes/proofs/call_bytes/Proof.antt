@@ -1,3 +1,4 @@
+-- `callbytes::call_bytes` meets its contract. Assumes nothing.
 use mathlib.Core.Path.{refl}
 use mathlib.Core.List.{[], _∷_, _++_}
 use Rattle.planbytes.specs.Numbers.{high}
@@ -6,38 +7,25 @@ use Rattle.callbytes.proofs.Slots.{built}
 use borrow.Author.Needs.{needs}
 use Rattle.callbytes.proofs.call_bytes.Statement.{statement}
 use Rattle.callbytes.proofs.call_bytes.Tie as tie
-use Rattle.callbytes.proofs.call_bytes.Reads as reads
-use Rattle.callbytes.proofs.call_bytes.Lts as lts
-use Rattle.callbytes.proofs.put_count.Reads as put-count-reads
-use Rattle.callbytes.proofs.put_head.Reads as put-head-reads
-use Rattle.callbytes.proofs.put_slots.Reads as put-slots-reads
-use Rattle.callbytes.proofs.state_number.Reads as state-number-reads
 
--- src/lib.rt:193:9
 state-number-requires : tie.Need-state-number-requires
 state-number-requires c κs = search needs
 
--- src/lib.rt:194:9
 state-number-requires-2 : tie.Need-state-number-requires-2
 state-number-requires-2 c κs = search needs
 
--- src/lib.rt:196:5
 put-head-requires : tie.Need-put-head-requires
 put-head-requires c κs = search needs
 
--- src/lib.rt:197:5
 put-slots-requires : tie.Need-put-slots-requires
 put-slots-requires c κs = search needs
 
--- src/lib.rt:198:5
 put-count-requires : tie.Need-put-count-requires
 put-count-requires c κs = search needs
 
--- src/lib.rt:199:5
 put-slots-requires-2 : tie.Need-put-slots-requires-2
 put-slots-requires-2 c κs = search needs
 
--- src/lib.rt:182:1
 returns : tie.Need-returns
 unfolding callBytes high
 returns c =

@@ -1,46 +1,33 @@
+-- `callbytes::put_slot` meets its contract. Assumes nothing.
 use borrow.Author.Needs.{needs}
 use Rattle.callbytes.proofs.Slots.{put-three}
 use Rattle.callbytes.proofs.put_slot.Statement.{statement}
 use Rattle.callbytes.proofs.put_slot.Tie as tie
-use Rattle.callbytes.proofs.put_slot.Reads as reads
-use Rattle.callbytes.proofs.put_slot.Lts as lts
-use Rattle.callbytes.proofs.signal_code.Reads as signal-code-reads
-use Rattle.callbytes.proofs.signal_number.Reads as signal-number-reads
-use Rattle.callbytes.proofs.signal_tunnel.Reads as signal-tunnel-reads
 
--- src/lib.rt:149:16
 signal-number-requires : tie.Need-signal-number-requires
 signal-number-requires c κs = search needs
 
--- src/lib.rt:149:5
 element-write-room : tie.Need-element-write-room
 element-write-room c = search needs
 
--- src/lib.rt:150:20
 signal-tunnel-requires : tie.Need-signal-tunnel-requires
 signal-tunnel-requires c κs = search needs
 
--- src/lib.rt:150:10
 add-room : tie.Need-add-room
 add-room c = search needs
 
--- src/lib.rt:150:5
 element-write-room-2 : tie.Need-element-write-room-2
 element-write-room-2 c = search needs
 
--- src/lib.rt:151:20
 signal-code-requires : tie.Need-signal-code-requires
 signal-code-requires c κs = search needs
 
--- src/lib.rt:151:10
 add-room-2 : tie.Need-add-room-2
 add-room-2 c = search needs
 
--- src/lib.rt:151:5
 element-write-room-3 : tie.Need-element-write-room-3
 element-write-room-3 c = search needs
 
--- src/lib.rt:144:1
 returns : tie.Need-returns
 returns c = rw (c .before .before .signal-number .ensures, c .before .signal-tunnel .ensures, c .signal-code .ensures) (put-three (c .before .before .before .args .room .now) (c .before .before .before .args .at) _ _ _)
 

@@ -1,3 +1,4 @@
+-- `callbytes::put_slots` meets its contract. Assumes nothing.
 use mathlib.Core.Path.{_≡_, sym, _∙_}
 use native.Mathlib.Omega.{arith}
 use Prim.Native.Nat.{_≤_, _<_, _-_, _+_, _*_}
@@ -8,9 +9,6 @@ use Rattle.callbytes.proofs.Slots.{put-all, put-next, put-end}
 use borrow.Author.Needs.{needs}
 use Rattle.callbytes.proofs.put_slots.Statement.{statement}
 use Rattle.callbytes.proofs.put_slots.Tie as tie
-use Rattle.callbytes.proofs.put_slots.Reads as reads
-use Rattle.callbytes.proofs.put_slots.Lts as lts
-use Rattle.callbytes.proofs.put_slot.Reads as put-slot-reads
 
 abbrev Inv-loop : tie.InvT-loop
 Inv-loop room₀ at slots i₀ room i = (i ≤ 16) × (sets room (at + 3 * i) (slotsBytes (drop i slots)) ≡ sets room₀ at (slotsBytes slots))
@@ -18,46 +16,36 @@ Inv-loop room₀ at slots i₀ room i = (i ≤ 16) × (sets room (at + 3 * i) (s
 abbrev μ-loop : tie.MeasureT-loop
 μ-loop room₀ at slots i₀ room i = 16 - i
 
--- src/lib.rt:158:5
 loop-holds : tie.Need-loop-holds Inv-loop μ-loop
 loop-holds c = (search needs, put-all _ _ _)
 
--- src/lib.rt:159:17
 mul-s : tie.Need-mul-s Inv-loop μ-loop
 mul-s c = search needs
 
--- src/lib.rt:159:17
 array-copy-out-s : tie.Need-array-copy-out-s Inv-loop μ-loop
 array-copy-out-s c = search needs
 
--- src/lib.rt:160:29
 mul-put-slot : tie.Need-mul-put-slot Inv-loop μ-loop
 mul-put-slot c = search needs
 
--- src/lib.rt:160:24
 add-put-slot : tie.Need-add-put-slot Inv-loop μ-loop
 add-put-slot c = omega arith
 
--- src/lib.rt:160:9
 put-slot-requires : tie.Need-put-slot-requires Inv-loop μ-loop
 put-slot-requires c κs = omega arith
 
--- src/lib.rt:158:9
 add-i : tie.Need-add-i Inv-loop μ-loop
 add-i c = search needs
 
--- src/lib.rt:158:5
 loop-less : tie.Need-loop-less Inv-loop μ-loop
 loop-less c = search needs
 
--- src/lib.rt:158:5
 loop-again : tie.Need-loop-again Inv-loop μ-loop
 loop-again c =
     let long : length (c .before .before .before .before .before .args .t3) ≡ 16 = search needs in
     let below : c .before .before .before .before .loop .i < length (c .before .before .before .before .before .args .t3) = rw long (search needs) in
     (search needs, rw (c .put-slot .ensures) (sym (put-next (c .before .before .before .before .before .args .t3) (c .before .before .before .before .loop .room) (c .before .before .before .before .before .args .at) (c .before .before .before .before .loop .i) below) ∙ c .before .before .before .before .loop .inv .1))
 
--- src/lib.rt:154:1
 returns : tie.Need-returns Inv-loop μ-loop
 returns c =
     let long : length (c .before .before .args .t3) ≡ 16 = search needs in

@@ -1,50 +1,36 @@
+-- `callbytes::read` meets its contract. Assumes nothing.
 use Rattle.callbytes.specs.Codec.{callIn}
 use borrow.Author.Needs.{needs}
 use Rattle.callbytes.proofs.read.Statement.{statement}
 use Rattle.callbytes.proofs.read.Tie as tie
-use Rattle.callbytes.proofs.read.Reads as reads
-use Rattle.callbytes.proofs.read.Lts as lts
-use Rattle.callbytes.proofs.slots_at.Reads as slots-at-reads
-use Rattle.callbytes.proofs.state_said.Reads as state-said-reads
-use Rattle.callbytes.proofs.two.Reads as two-reads
 
--- src/lib.rt:248:31
 shared-slice-read-state-said : tie.Need-shared-slice-read-state-said
 shared-slice-read-state-said c = search needs
 
--- src/lib.rt:248:20
 state-said-requires : tie.Need-state-said-requires
 state-said-requires c κs = search needs
 
--- src/lib.rt:251:31
 shared-slice-read-state-said-2 : tie.Need-shared-slice-read-state-said-2
 shared-slice-read-state-said-2 c = search needs
 
--- src/lib.rt:251:20
 state-said-requires-2 : tie.Need-state-said-requires-2
 state-said-requires-2 c κs = search needs
 
--- src/lib.rt:254:20
 slots-at-requires : tie.Need-slots-at-requires
 slots-at-requires c κs = search needs
 
--- src/lib.rt:255:20
 shared-slice-read-t12 : tie.Need-shared-slice-read-t12
 shared-slice-read-t12 c = search needs
 
--- src/lib.rt:258:20
 slots-at-requires-2 : tie.Need-slots-at-requires-2
 slots-at-requires-2 c κs = search needs
 
--- src/lib.rt:259:20
 shared-slice-read-t16 : tie.Need-shared-slice-read-t16
 shared-slice-read-t16 c = search needs
 
--- src/lib.rt:261:21
 two-requires : tie.Need-two-requires
 two-requires c κs = search needs
 
--- src/lib.rt:242:1
 returns : tie.Need-returns
 unfolding callIn
 returns c = rw (c .before .before .before .before .before .before .before .state-said .ensures, c .before .before .before .before .before .state-said2 .ensures, c .before .before .before .before .slots-at .ensures, c .before .before .slots-at2 .ensures, c .two .ensures)

@@ -1,3 +1,4 @@
+-- `callbytes::read_from` meets its contract. Assumes nothing.
 use mathlib.Core.Path.{ap, _∙_}
 use native.Mathlib.Omega.{arith}
 use Prim.Native.Nat.{_-_, _≤_}
@@ -7,27 +8,19 @@ use Rattle.callbytes.specs.Codec.{callIn}
 use borrow.Author.Needs.{needs}
 use Rattle.callbytes.proofs.read_from.Statement.{statement}
 use Rattle.callbytes.proofs.read_from.Tie as tie
-use Rattle.callbytes.proofs.read_from.Reads as reads
-use Rattle.callbytes.proofs.read_from.Lts as lts
-use Rattle.callbytes.proofs.read.Reads as read-reads
 
--- src/lib.rt:269:10
 sub-read : tie.Need-sub-read
 sub-read c = search needs
 
--- src/lib.rt:269:10
 part-read-start : tie.Need-part-read-start
 part-read-start c = search needs
 
--- src/lib.rt:269:10
 part-read-end : tie.Need-part-read-end
 part-read-end c = search needs
 
--- src/lib.rt:269:5
 read-requires : tie.Need-read-requires
 read-requires c κs = search needs
 
--- src/lib.rt:265:1
 returns : tie.Need-returns
 returns c =
     let a = c .before .before .before .args in

@@ -1,28 +1,21 @@
+-- `callbytes::signal_said` meets its contract. Assumes nothing.
 use borrow.Author.Tests.{eq-eqb, ne-eqb}
 use borrow.Author.Needs.{needs}
 use Rattle.callbytes.proofs.signal_said.Statement.{statement}
 use Rattle.callbytes.proofs.signal_said.Tie as tie
-use Rattle.callbytes.proofs.signal_said.Reads as reads
-use Rattle.callbytes.proofs.signal_said.Lts as lts
-use Rattle.callbytes.proofs.status_said.Reads as status-said-reads
 
--- src/lib.rt:131:9
 returns : tie.Need-returns
 returns c = rw (eq-eqb _ 0 (c .if1 .taken))
 
--- src/lib.rt:134:9
 returns-2 : tie.Need-returns-2
 returns-2 c = rw (ne-eqb _ 0 (c .before .if1 .left), eq-eqb _ 1 (c .if2 .taken))
 
--- src/lib.rt:137:9
 returns-3 : tie.Need-returns-3
 returns-3 c = rw (ne-eqb _ 0 (c .before .before .if1 .left), ne-eqb _ 1 (c .before .if2 .left), eq-eqb _ 2 (c .if3 .taken))
 
--- src/lib.rt:139:30
 status-said-requires : tie.Need-status-said-requires
 status-said-requires c κs = search needs
 
--- src/lib.rt:127:1
 returns-4 : tie.Need-returns-4
 returns-4 c = rw (ne-eqb _ 0 (c .before .before .before .if1 .left), ne-eqb _ 1 (c .before .before .if2 .left), ne-eqb _ 2 (c .before .if3 .left), c .status-said .ensures)
 

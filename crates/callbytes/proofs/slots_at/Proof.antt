@@ -1,3 +1,4 @@
+-- `callbytes::slots_at` meets its contract. Assumes nothing.
 use mathlib.Core.Path.{_≡_, refl, sym, _∙_}
 use native.Mathlib.Omega.{arith}
 use Prim.Native.Nat.{_≤_, _-_}
@@ -8,9 +9,6 @@ use Rattle.callbytes.proofs.Slots.{slots-all, slots-next, slots-done}
 use borrow.Author.Needs.{needs}
 use Rattle.callbytes.proofs.slots_at.Statement.{statement}
 use Rattle.callbytes.proofs.slots_at.Tie as tie
-use Rattle.callbytes.proofs.slots_at.Reads as reads
-use Rattle.callbytes.proofs.slots_at.Lts as lts
-use Rattle.callbytes.proofs.slot_at.Reads as slot-at-reads
 
 abbrev Inv-loop : tie.InvT-loop
 Inv-loop b at slots₀ i₀ slots i = (i ≤ 16) × (sets slots i (drop i (slotsFrom 16 b at)) ≡ slotsFrom 16 b at)
@@ -18,43 +16,33 @@ Inv-loop b at slots₀ i₀ slots i = (i ≤ 16) × (sets slots i (drop i (slots
 abbrev μ-loop : tie.MeasureT-loop
 μ-loop b at slots₀ i₀ slots i = 16 - i
 
--- src/lib.rt:183:5
 loop-holds : tie.Need-loop-holds Inv-loop μ-loop
 loop-holds c = (search needs, slots-all (c .before .args .b .now) (c .before .args .at) _ refl)
 
--- src/lib.rt:184:36
 mul-slot-at : tie.Need-mul-slot-at Inv-loop μ-loop
 mul-slot-at c = search needs
 
--- src/lib.rt:184:31
 add-slot-at : tie.Need-add-slot-at Inv-loop μ-loop
 add-slot-at c = omega arith
 
--- src/lib.rt:184:20
 slot-at-requires : tie.Need-slot-at-requires Inv-loop μ-loop
 slot-at-requires c κs = omega arith
 
--- src/lib.rt:184:9
 mul-slots : tie.Need-mul-slots Inv-loop μ-loop
 mul-slots c = search needs
 
--- src/lib.rt:184:9
 array-set-from-slots : tie.Need-array-set-from-slots Inv-loop μ-loop
 array-set-from-slots c = search needs
 
--- src/lib.rt:183:9
 add-i : tie.Need-add-i Inv-loop μ-loop
 add-i c = search needs
 
--- src/lib.rt:183:5
 loop-less : tie.Need-loop-less Inv-loop μ-loop
 loop-less c = search needs
 
--- src/lib.rt:183:5
 loop-again : tie.Need-loop-again Inv-loop μ-loop
 loop-again c = (search needs, rw (c .slot-at .ensures) (sym (slots-next (c .before .before .before .before .args .b .now) (c .before .before .before .before .args .at) (c .before .before .loop .i) (c .before .before .loop .slots) (search needs)) ∙ c .before .before .loop .inv .1))
 
--- src/lib.rt:175:1
 returns : tie.Need-returns Inv-loop μ-loop
 returns c =
     let end : c .before .loop .i ≡ 16 = omega arith in

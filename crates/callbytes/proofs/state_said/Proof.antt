@@ -1,26 +1,20 @@
+-- `callbytes::state_said` meets its contract. Assumes nothing.
 use borrow.Author.Tests.{eq-eqb, ne-eqb}
 use Rattle.callbytes.proofs.state_said.Statement.{statement}
 use Rattle.callbytes.proofs.state_said.Tie as tie
-use Rattle.callbytes.proofs.state_said.Reads as reads
-use Rattle.callbytes.proofs.state_said.Lts as lts
 
--- src/lib.rt:94:9
 returns : tie.Need-returns
 returns c = rw (eq-eqb _ 0 (c .if1 .taken))
 
--- src/lib.rt:97:9
 returns-2 : tie.Need-returns-2
 returns-2 c = rw (ne-eqb _ 0 (c .before .if1 .left), eq-eqb _ 1 (c .if2 .taken))
 
--- src/lib.rt:100:9
 returns-3 : tie.Need-returns-3
 returns-3 c = rw (ne-eqb _ 0 (c .before .before .if1 .left), ne-eqb _ 1 (c .before .if2 .left), eq-eqb _ 2 (c .if3 .taken))
 
--- src/lib.rt:90:1
 returns-4 : tie.Need-returns-4
 returns-4 c = rw (ne-eqb _ 0 (c .before .before .before .if1 .left), ne-eqb _ 1 (c .before .before .if2 .left), ne-eqb _ 2 (c .before .if3 .left), eq-eqb _ 3 (c .if4 .taken))
 
--- src/lib.rt:90:1
 returns-5 : tie.Need-returns-5
 returns-5 c = rw (ne-eqb _ 0 (c .before .before .before .if1 .left), ne-eqb _ 1 (c .before .before .if2 .left), ne-eqb _ 2 (c .before .if3 .left), ne-eqb _ 3 (c .if4 .left))
 

@@ -1,30 +1,23 @@
+-- `callbytes::status_said` meets its contract. Assumes nothing.
 use borrow.Author.Tests.{eq-eqb, ne-eqb}
 use Rattle.callbytes.proofs.status_said.Statement.{statement}
 use Rattle.callbytes.proofs.status_said.Tie as tie
-use Rattle.callbytes.proofs.status_said.Reads as reads
-use Rattle.callbytes.proofs.status_said.Lts as lts
 
--- src/lib.rt:109:9
 returns : tie.Need-returns
 returns c = rw (eq-eqb _ 3 (c .if1 .taken))
 
--- src/lib.rt:112:9
 returns-2 : tie.Need-returns-2
 returns-2 c = rw (ne-eqb _ 3 (c .before .if1 .left), eq-eqb _ 4 (c .if2 .taken))
 
--- src/lib.rt:115:9
 returns-3 : tie.Need-returns-3
 returns-3 c = rw (ne-eqb _ 3 (c .before .before .if1 .left), ne-eqb _ 4 (c .before .if2 .left), eq-eqb _ 5 (c .if3 .taken))
 
--- src/lib.rt:118:9
 returns-4 : tie.Need-returns-4
 returns-4 c = rw (ne-eqb _ 3 (c .before .before .before .if1 .left), ne-eqb _ 4 (c .before .before .if2 .left), ne-eqb _ 5 (c .before .if3 .left), eq-eqb _ 6 (c .if4 .taken))
 
--- src/lib.rt:105:1
 returns-5 : tie.Need-returns-5
 returns-5 c = rw (ne-eqb _ 3 (c .before .before .before .before .if1 .left), ne-eqb _ 4 (c .before .before .before .if2 .left), ne-eqb _ 5 (c .before .before .if3 .left), ne-eqb _ 6 (c .before .if4 .left), eq-eqb _ 7 (c .if5 .taken))
 
--- src/lib.rt:105:1
 returns-6 : tie.Need-returns-6
 returns-6 c = rw (ne-eqb _ 3 (c .before .before .before .before .if1 .left), ne-eqb _ 4 (c .before .before .before .if2 .left), ne-eqb _ 5 (c .before .before .if3 .left), ne-eqb _ 6 (c .before .if4 .left), ne-eqb _ 7 (c .if5 .left))
 

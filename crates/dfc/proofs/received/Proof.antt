@@ -1,38 +1,27 @@
+-- `dfc::received` meets its contract. Assumes nothing.
 use mathlib.Core.Path.{refl}
 use borrow.Author.Needs.{needs}
 use Rattle.dfc.proofs.received.Statement.{statement}
 use Rattle.dfc.proofs.received.Tie as tie
-use Rattle.dfc.proofs.received.Reads as reads
-use Rattle.dfc.proofs.received.Lts as lts
-use Rattle.dfc.proofs.not_routed.Reads as not-routed-reads
-use Rattle.dfc.proofs.routed_to.Reads as routed-to-reads
-use Rattle.setupbytes.proofs.setup_bytes.Reads as setup-bytes-reads
 
--- src/lib.rt:354:34
 enum-known-outcome : tie.Need-enum-known-outcome
 enum-known-outcome c = search needs
 
--- src/lib.rt:355:21
 setup-bytes-requires : tie.Need-setup-bytes-requires
 setup-bytes-requires c κs = search needs
 
--- src/lib.rt:356:13
 routed-to-requires : tie.Need-routed-to-requires
 routed-to-requires c κs = search needs
 
--- src/lib.rt:358:35
 enum-known-outcome-2 : tie.Need-enum-known-outcome-2
 enum-known-outcome-2 c = search needs
 
--- src/lib.rt:358:41
 not-routed-requires : tie.Need-not-routed-requires
 not-routed-requires c κs = search needs
 
--- src/lib.rt:348:1
 returns : tie.Need-returns
 returns c = (rw (c .before .before .before .outcome .given .1) (c .routed-to .ensures), rw (c .before .before .before .outcome .given .1) (c .before .setup-bytes .ensures))
 
--- src/lib.rt:348:1
 returns-2 : tie.Need-returns-2
 returns-2 c = (rw (c .before .before .outcome2 .given .1) (c .not-routed .ensures), rw (c .before .before .outcome2 .given .1) refl)
 

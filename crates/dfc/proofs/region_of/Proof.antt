@@ -1,14 +1,11 @@
+-- `dfc::region_of` meets its contract. Assumes nothing.
 use borrow.Author.Tests.{eq-eqb, ne-eqb}
 use Rattle.dfc.proofs.region_of.Statement.{statement}
 use Rattle.dfc.proofs.region_of.Tie as tie
-use Rattle.dfc.proofs.region_of.Reads as reads
-use Rattle.dfc.proofs.region_of.Lts as lts
 
--- src/lib.rt:47:1
 returns : tie.Need-returns
 returns c = rw (eq-eqb _ 0 (c .if1 .taken))
 
--- src/lib.rt:47:1
 returns-2 : tie.Need-returns-2
 returns-2 c = rw (ne-eqb _ 0 (c .if1 .left))
 

@@ -4,23 +4,16 @@ use borrow.Author.Tests.{not-true, not-false}
 use borrow.Author.Needs.{needs}
 use Rattle.exchange.proofs.answers_to.Statement.{statement}
 use Rattle.exchange.proofs.answers_to.Tie as tie
-use Rattle.exchange.proofs.answers_to.Reads as reads
-use Rattle.exchange.proofs.answers_to.Lts as lts
-use Rattle.call.proofs.Call.is_free.Reads as is-free-reads
 
--- src/lib.rt:95:9
 returns : tie.Need-returns
 returns c = rw (not-true (c .before .before .before .args .t .inside) (c .if1 .taken))
 
--- src/lib.rt:97:9
 is-free-requires : tie.Need-is-free-requires
 is-free-requires c κs = search needs
 
--- src/lib.rt:99:9
 returns-2 : tie.Need-returns-2
 returns-2 c = rw (not-false (c .before .before .before .before .before .args .t .inside) (c .before .before .if1 .left), sym (c .before .is-free .ensures) ∙ (c .if2 .taken))
 
--- src/lib.rt:90:1
 returns-3 : tie.Need-returns-3
 returns-3 c = rw (not-false (c .before .before .before .before .before .before .args .t .inside) (c .before .before .before .if1 .left), sym (c .before .before .is-free .ensures) ∙ (c .before .if2 .left))
 

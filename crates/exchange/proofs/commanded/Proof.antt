@@ -4,28 +4,19 @@ use borrow.Author.Tests.{lt-ltb, le-ltb}
 use borrow.Author.Needs.{needs}
 use Rattle.exchange.proofs.commanded.Statement.{statement}
 use Rattle.exchange.proofs.commanded.Tie as tie
-use Rattle.exchange.proofs.commanded.Reads as reads
-use Rattle.exchange.proofs.commanded.Lts as lts
-use Rattle.call.proofs.Call.step.Reads as step-reads
-use Rattle.exchange.proofs.answers_to.Reads as answers-to-reads
 
--- src/lib.rt:110:9
 returns : tie.Need-returns
 returns c = rw (lt-ltb _ _ (c .if1 .taken))
 
--- src/lib.rt:115:9
 answers-to-requires : tie.Need-answers-to-requires
 answers-to-requires c κs = search needs
 
--- src/lib.rt:117:9
 step-requires : tie.Need-step-requires
 step-requires c κs = search needs
 
--- src/lib.rt:105:1
 returns-2 : tie.Need-returns-2
 returns-2 c = rw (le-ltb _ _ (c .before .before .before .if1 .left), sym (c .before .before .answers-to .ensures) ∙ (c .before .if2 .taken)) (c .step .ensures)
 
--- src/lib.rt:105:1
 returns-3 : tie.Need-returns-3
 returns-3 c = rw (le-ltb _ _ (c .before .before .if1 .left), sym (c .before .answers-to .ensures) ∙ (c .if2 .left))
 

@@ -2,14 +2,10 @@
 use borrow.Author.Tests.{lt-ltb, le-ltb}
 use Rattle.exchange.proofs.within.Statement.{statement}
 use Rattle.exchange.proofs.within.Tie as tie
-use Rattle.exchange.proofs.within.Reads as reads
-use Rattle.exchange.proofs.within.Lts as lts
 
--- src/lib.rt:145:1
 returns : tie.Need-returns
 returns c = rw (lt-ltb _ _ (c .if1 .taken))
 
--- src/lib.rt:145:1
 returns-2 : tie.Need-returns-2
 returns-2 c = rw (le-ltb _ _ (c .if1 .left))
 

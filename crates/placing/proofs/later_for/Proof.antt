@@ -2,18 +2,13 @@
 use borrow.Author.Tests.{lt-ltb, le-ltb}
 use Rattle.placing.proofs.later_for.Statement.{statement}
 use Rattle.placing.proofs.later_for.Tie as tie
-use Rattle.placing.proofs.later_for.Reads as reads
-use Rattle.placing.proofs.later_for.Lts as lts
 
--- src/lib.rt:163:9
 returns : tie.Need-returns
 returns c = rw (lt-ltb _ _ (c .if1 .taken))
 
--- src/lib.rt:159:1
 returns-2 : tie.Need-returns-2
 returns-2 c = rw (le-ltb _ _ (c .before .if1 .left), lt-ltb _ _ (c .if2 .taken))
 
--- src/lib.rt:159:1
 returns-3 : tie.Need-returns-3
 returns-3 c = rw (le-ltb _ _ (c .before .if1 .left), le-ltb _ _ (c .if2 .left))
 

@@ -1,81 +1,61 @@
+-- `setupbytes::four` meets its contract. Assumes nothing.
 use native.Mathlib.Omega.{arith}
 use Rattle.planbytes.proofs.Numbers.{four-at}
 use borrow.Author.Needs.{needs}
 use Rattle.setupbytes.proofs.four.Statement.{statement}
 use Rattle.setupbytes.proofs.four.Tie as tie
-use Rattle.setupbytes.proofs.four.Reads as reads
-use Rattle.setupbytes.proofs.four.Lts as lts
-use Rattle.setupbytes.proofs.wide.Reads as wide-reads
 
--- src/lib.rt:149:12
 shared-slice-read-wide : tie.Need-shared-slice-read-wide
 shared-slice-read-wide c = search needs
 
--- src/lib.rt:149:7
 wide-requires : tie.Need-wide-requires
 wide-requires c κs = search needs
 
--- src/lib.rt:149:7
 mul-result : tie.Need-mul-result
 mul-result c = search needs
 
--- src/lib.rt:149:42
 add-wide : tie.Need-add-wide
 add-wide c = search needs
 
--- src/lib.rt:149:36
 shared-slice-read-wide-2 : tie.Need-shared-slice-read-wide-2
 shared-slice-read-wide-2 c = search needs
 
--- src/lib.rt:149:31
 wide-requires-2 : tie.Need-wide-requires-2
 wide-requires-2 c κs = search needs
 
--- src/lib.rt:149:7
 add-result : tie.Need-add-result
 add-result c = search needs
 
--- src/lib.rt:149:6
 mul-result-2 : tie.Need-mul-result-2
 mul-result-2 c = search needs
 
--- src/lib.rt:149:71
 add-wide-2 : tie.Need-add-wide-2
 add-wide-2 c = search needs
 
--- src/lib.rt:149:65
 shared-slice-read-wide-3 : tie.Need-shared-slice-read-wide-3
 shared-slice-read-wide-3 c = search needs
 
--- src/lib.rt:149:60
 wide-requires-3 : tie.Need-wide-requires-3
 wide-requires-3 c κs = search needs
 
--- src/lib.rt:149:6
 add-result-2 : tie.Need-add-result-2
 add-result-2 c = search needs
 
--- src/lib.rt:149:5
 mul-result-3 : tie.Need-mul-result-3
 mul-result-3 c = search needs
 
--- src/lib.rt:150:22
 add-wide-3 : tie.Need-add-wide-3
 add-wide-3 c = search needs
 
--- src/lib.rt:150:16
 shared-slice-read-wide-4 : tie.Need-shared-slice-read-wide-4
 shared-slice-read-wide-4 c = search needs
 
--- src/lib.rt:150:11
 wide-requires-4 : tie.Need-wide-requires-4
 wide-requires-4 c κs = search needs
 
--- src/lib.rt:149:5
 add-result-3 : tie.Need-add-result-3
 add-result-3 c = search needs
 
--- src/lib.rt:145:1
 returns : tie.Need-returns
 returns c = omega (arith, four-at (c .before .before .before .before .before .before .before .before .before .args .bytes .now) (c .before .before .before .before .before .before .before .before .before .args .at) (search needs))
 

@@ -1,62 +1,47 @@
+-- `setupbytes::head_of` meets its contract. Assumes nothing.
 use Rattle.planbytes.specs.Numbers.{high}
 use Rattle.planbytes.specs.Format.{field}
 use Rattle.setupbytes.specs.Codec.{headOf}
 use borrow.Author.Needs.{needs}
 use Rattle.setupbytes.proofs.head_of.Statement.{statement}
 use Rattle.setupbytes.proofs.head_of.Tie as tie
-use Rattle.setupbytes.proofs.head_of.Reads as reads
-use Rattle.setupbytes.proofs.head_of.Lts as lts
-use Rattle.setupbytes.proofs.low.Reads as low-reads
 
--- src/lib.rt:109:9
 low-requires : tie.Need-low-requires
 low-requires c κs = search needs
 
--- src/lib.rt:110:9
 low-requires-2 : tie.Need-low-requires-2
 low-requires-2 c κs = search needs
 
--- src/lib.rt:111:9
 low-requires-3 : tie.Need-low-requires-3
 low-requires-3 c κs = search needs
 
--- src/lib.rt:112:9
 low-requires-4 : tie.Need-low-requires-4
 low-requires-4 c κs = search needs
 
--- src/lib.rt:113:9
 low-requires-5 : tie.Need-low-requires-5
 low-requires-5 c κs = search needs
 
--- src/lib.rt:114:9
 low-requires-6 : tie.Need-low-requires-6
 low-requires-6 c κs = search needs
 
--- src/lib.rt:115:9
 low-requires-7 : tie.Need-low-requires-7
 low-requires-7 c κs = search needs
 
--- src/lib.rt:116:9
 low-requires-8 : tie.Need-low-requires-8
 low-requires-8 c κs = search needs
 
--- src/lib.rt:117:9
 low-requires-9 : tie.Need-low-requires-9
 low-requires-9 c κs = search needs
 
--- src/lib.rt:118:9
 low-requires-10 : tie.Need-low-requires-10
 low-requires-10 c κs = search needs
 
--- src/lib.rt:119:9
 low-requires-11 : tie.Need-low-requires-11
 low-requires-11 c κs = search needs
 
--- src/lib.rt:120:9
 low-requires-12 : tie.Need-low-requires-12
 low-requires-12 c κs = search needs
 
--- src/lib.rt:97:1
 returns : tie.Need-returns
 unfolding headOf field high
 returns c = rw (c .before .before .before .before .before .before .before .before .before .before .before .low .ensures, c .before .before .before .before .before .before .before .before .before .before .low2 .ensures, c .before .before .before .before .before .before .before .before .before .low3 .ensures, c .before .before .before .before .before .before .before .before .low4 .ensures, c .before .before .before .before .before .before .before .low5 .ensures, c .before .before .before .before .before .before .low6 .ensures, c .before .before .before .before .before .low7 .ensures, c .before .before .before .before .low8 .ensures, c .before .before .before .low9 .ensures, c .before .before .low10 .ensures, c .before .low11 .ensures, c .low12 .ensures)

@@ -1,3 +1,4 @@
+-- `setupbytes::places` meets its contract. Assumes nothing.
 use mathlib.Core.Path.{_≡_, sym, _∙_}
 use native.Mathlib.Omega.{arith}
 use Prim.Native.Nat.{_-_, _≤_}
@@ -7,8 +8,6 @@ use Rattle.setupbytes.proofs.Stores.{taken-all, taken-next, taken-done}
 use borrow.Author.Needs.{needs}
 use Rattle.setupbytes.proofs.places.Statement.{statement}
 use Rattle.setupbytes.proofs.places.Tie as tie
-use Rattle.setupbytes.proofs.places.Reads as reads
-use Rattle.setupbytes.proofs.places.Lts as lts
 
 abbrev Inv-loop : tie.InvT-loop
 Inv-loop bytes at all₀ i₀ all i = (i ≤ 32) × (sets all i (drop i (take 32 (drop at bytes))) ≡ take 32 (drop at bytes))
@@ -16,35 +15,27 @@ Inv-loop bytes at all₀ i₀ all i = (i ≤ 32) × (sets all i (drop i (take 32
 abbrev μ-loop : tie.MeasureT-loop
 μ-loop bytes at all₀ i₀ all i = 32 - i
 
--- src/lib.rt:159:5
 loop-holds : tie.Need-loop-holds Inv-loop μ-loop
 loop-holds c = (search needs, taken-all (c .args .bytes .now) (c .args .at) (search needs))
 
--- src/lib.rt:160:24
 add-all : tie.Need-add-all Inv-loop μ-loop
 add-all c = omega arith
 
--- src/lib.rt:160:18
 shared-slice-read-all : tie.Need-shared-slice-read-all Inv-loop μ-loop
 shared-slice-read-all c = omega arith
 
--- src/lib.rt:160:9
 array-write-all : tie.Need-array-write-all Inv-loop μ-loop
 array-write-all c = search needs
 
--- src/lib.rt:159:9
 add-i : tie.Need-add-i Inv-loop μ-loop
 add-i c = search needs
 
--- src/lib.rt:159:5
 loop-less : tie.Need-loop-less Inv-loop μ-loop
 loop-less c = search needs
 
--- src/lib.rt:159:5
 loop-again : tie.Need-loop-again Inv-loop μ-loop
 loop-again c = (search needs, sym (taken-next (c .before .before .before .args .bytes .now) (c .before .before .loop .all) (c .before .before .before .args .at) (c .before .before .loop .i) (search needs) (search needs)) ∙ c .before .before .loop .inv .1)
 
--- src/lib.rt:154:1
 returns : tie.Need-returns Inv-loop μ-loop
 returns c =
     let end : c .before .loop .i ≡ 32 = omega arith in

@@ -1,3 +1,4 @@
+-- `setupbytes::put` meets its contract. Assumes nothing.
 use borrow.Author.Needs.{needs}
 use mathlib.Core.Path.{_≡_, sym, _∙_}
 use native.Mathlib.Omega.{arith}
@@ -7,8 +8,6 @@ use lib.Seq.{sets}
 use Rattle.setupbytes.proofs.Stores.{put-all, put-next, put-done}
 use Rattle.setupbytes.proofs.put.Statement.{statement}
 use Rattle.setupbytes.proofs.put.Tie as tie
-use Rattle.setupbytes.proofs.put.Reads as reads
-use Rattle.setupbytes.proofs.put.Lts as lts
 
 abbrev Inv-loop : tie.InvT-loop
 Inv-loop room₀ at part i₀ room i = (i ≤ length part) × (sets room (at + i) (drop i part) ≡ sets room₀ at part)
@@ -16,35 +15,27 @@ Inv-loop room₀ at part i₀ room i = (i ≤ length part) × (sets room (at + i
 abbrev μ-loop : tie.MeasureT-loop
 μ-loop room₀ at part i₀ room i = length part - i
 
--- src/lib.rt:88:5
 loop-holds : tie.Need-loop-holds Inv-loop μ-loop
 loop-holds c = (search needs, put-all (c .args .room .now) (c .args .part .now) (c .args .at))
 
--- src/lib.rt:89:24
 shared-slice-read-room : tie.Need-shared-slice-read-room Inv-loop μ-loop
 shared-slice-read-room c = search needs
 
--- src/lib.rt:89:14
 add-room : tie.Need-add-room Inv-loop μ-loop
 add-room c = omega arith
 
--- src/lib.rt:89:9
 element-write-room : tie.Need-element-write-room Inv-loop μ-loop
 element-write-room c = omega arith
 
--- src/lib.rt:90:9
 add-i : tie.Need-add-i Inv-loop μ-loop
 add-i c = search needs
 
--- src/lib.rt:88:5
 loop-less : tie.Need-loop-less Inv-loop μ-loop
 loop-less c = search needs
 
--- src/lib.rt:88:5
 loop-again : tie.Need-loop-again Inv-loop μ-loop
 loop-again c = (search needs, sym (put-next (c .before .before .loop .room) (c .before .before .before .args .part .now) (c .before .before .before .args .at) (c .before .before .loop .i) (search needs)) ∙ c .before .before .loop .inv .1)
 
--- src/lib.rt:83:1
 returns : tie.Need-returns Inv-loop μ-loop
 returns c = sym (put-done (c .before .loop .room) (c .before .before .args .part .now) (c .before .before .args .at + c .before .loop .i) (c .before .loop .i) (omega arith)) ∙ c .before .loop .inv .1
 

@@ -1,34 +1,26 @@
+-- `setupbytes::put_places` meets its contract. Assumes nothing.
 use mathlib.Core.Path.{_≡_}
 use lib.ListN.{length}
 use Rattle.setupbytes.proofs.Stores.{places-put}
 use borrow.Author.Needs.{needs}
 use Rattle.setupbytes.proofs.put_places.Statement.{statement}
 use Rattle.setupbytes.proofs.put_places.Tie as tie
-use Rattle.setupbytes.proofs.put_places.Reads as reads
-use Rattle.setupbytes.proofs.put_places.Lts as lts
-use Rattle.setupbytes.proofs.put.Reads as put-reads
 
--- src/lib.rt:102:19
 slice-aggregate-put : tie.Need-slice-aggregate-put
 slice-aggregate-put c = search needs
 
--- src/lib.rt:102:5
 put-requires : tie.Need-put-requires
 put-requires c κs = search needs
 
--- src/lib.rt:103:15
 add-put : tie.Need-add-put
 add-put c = search needs
 
--- src/lib.rt:103:23
 slice-aggregate-put-2 : tie.Need-slice-aggregate-put-2
 slice-aggregate-put-2 c = search needs
 
--- src/lib.rt:103:5
 put-requires-2 : tie.Need-put-requires-2
 put-requires-2 c κs = search needs
 
--- src/lib.rt:98:1
 returns : tie.Need-returns
 returns c =
     let long : length (c .before .before .before .before .before .before .args .t5) ≡ 32 = search needs in

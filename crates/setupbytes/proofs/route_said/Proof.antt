@@ -1,18 +1,14 @@
+-- `setupbytes::route_said` meets its contract. Assumes nothing.
 use borrow.Author.Tests.{eq-eqb, ne-eqb}
 use Rattle.setupbytes.proofs.route_said.Statement.{statement}
 use Rattle.setupbytes.proofs.route_said.Tie as tie
-use Rattle.setupbytes.proofs.route_said.Reads as reads
-use Rattle.setupbytes.proofs.route_said.Lts as lts
 
--- src/lib.rt:173:9
 returns : tie.Need-returns
 returns c = rw (eq-eqb _ 1 (c .if1 .taken))
 
--- src/lib.rt:169:1
 returns-2 : tie.Need-returns-2
 returns-2 c = rw (ne-eqb _ 1 (c .before .if1 .left), eq-eqb _ 2 (c .if2 .taken))
 
--- src/lib.rt:169:1
 returns-3 : tie.Need-returns-3
 returns-3 c = rw (ne-eqb _ 1 (c .before .if1 .left), ne-eqb _ 2 (c .if2 .left))
 

@@ -1,3 +1,4 @@
+-- `setupbytes::same` meets its contract. Assumes nothing.
 use mathlib.Core.Path.{_≡_, sym}
 use mathlib.Core.Bool.{true}
 use native.Mathlib.Omega.{arith}
@@ -11,8 +12,6 @@ use Rattle.setupbytes.specs.Codec.{same}
 use borrow.Author.Needs.{needs}
 use Rattle.setupbytes.proofs.same.Statement.{statement}
 use Rattle.setupbytes.proofs.same.Tie as tie
-use Rattle.setupbytes.proofs.same.Reads as reads
-use Rattle.setupbytes.proofs.same.Lts as lts
 
 abbrev Inv-loop : tie.InvT-loop
 Inv-loop a b i₀ i = (i ≤ 110) × (every i (λ k. eqb (getD a k 0) (getD b k 0)) ≡ true)
@@ -20,36 +19,28 @@ Inv-loop a b i₀ i = (i ≤ 110) × (every i (λ k. eqb (getD a k 0) (getD b k 
 abbrev μ-loop : tie.MeasureT-loop
 μ-loop a b i₀ i = 110 - i
 
--- src/lib.rt:227:5
 loop-holds : tie.Need-loop-holds Inv-loop μ-loop
 loop-holds c = (search needs, every-none _)
 
--- src/lib.rt:228:12
 shared-slice-read-if1 : tie.Need-shared-slice-read-if1 Inv-loop μ-loop
 shared-slice-read-if1 c = omega arith
 
--- src/lib.rt:228:20
 shared-slice-read-if1-2 : tie.Need-shared-slice-read-if1-2 Inv-loop μ-loop
 shared-slice-read-if1-2 c = omega arith
 
--- src/lib.rt:229:13
 returns : tie.Need-returns Inv-loop μ-loop
 unfolding same
 returns c = sym (every-no _ _ _ (c .before .before .before .loop-test .taken) (ne-eqb _ _ (c .if1 .taken)))
 
--- src/lib.rt:227:9
 add-i : tie.Need-add-i Inv-loop μ-loop
 add-i c = search needs
 
--- src/lib.rt:227:5
 loop-less : tie.Need-loop-less Inv-loop μ-loop
 loop-less c = search needs
 
--- src/lib.rt:227:5
 loop-again : tie.Need-loop-again Inv-loop μ-loop
 loop-again c = (search needs, every-more _ _ (c .before .before .before .before .loop .inv .1) (eq-eqb _ _ (c .if1 .left)))
 
--- src/lib.rt:223:1
 returns-2 : tie.Need-returns-2 Inv-loop μ-loop
 unfolding same
 returns-2 c =

@@ -1,3 +1,4 @@
+-- `setupbytes::setup_bytes` meets its contract. Assumes nothing.
 use mathlib.Core.Path.{_≡_}
 use lib.ListN.{length}
 use Rattle.setupbytes.specs.Codec.{setupBytes}
@@ -5,41 +6,28 @@ use Rattle.setupbytes.proofs.Stores.{built}
 use borrow.Author.Needs.{needs}
 use Rattle.setupbytes.proofs.setup_bytes.Statement.{statement}
 use Rattle.setupbytes.proofs.setup_bytes.Tie as tie
-use Rattle.setupbytes.proofs.setup_bytes.Reads as reads
-use Rattle.setupbytes.proofs.setup_bytes.Lts as lts
-use Rattle.setupbytes.proofs.head.Reads as head-reads
-use Rattle.setupbytes.proofs.put.Reads as put-reads
-use Rattle.setupbytes.proofs.put_places.Reads as put-places-reads
 
--- src/lib.rt:165:17
 head-requires : tie.Need-head-requires
 head-requires c κs = search needs
 
--- src/lib.rt:166:23
 slice-aggregate-put : tie.Need-slice-aggregate-put
 slice-aggregate-put c = search needs
 
--- src/lib.rt:166:5
 put-requires : tie.Need-put-requires
 put-requires c κs = search needs
 
--- src/lib.rt:167:5
 put-places-requires : tie.Need-put-places-requires
 put-places-requires c κs = search needs
 
--- src/lib.rt:168:5
 put-places-requires-2 : tie.Need-put-places-requires-2
 put-places-requires-2 c κs = search needs
 
--- src/lib.rt:169:25
 slice-aggregate-put-2 : tie.Need-slice-aggregate-put-2
 slice-aggregate-put-2 c = search needs
 
--- src/lib.rt:169:5
 put-requires-2 : tie.Need-put-requires-2
 put-requires-2 c κs = search needs
 
--- src/lib.rt:157:1
 returns : tie.Need-returns
 unfolding setupBytes
 returns c =
