@@ -10,19 +10,19 @@ use lib.Dec.{leb}
 use borrow.Author.Tests.{le-leb, lt-leb}
 use Rattle.refusal.specs.declared.Refusal.{Refusal}
 use Rattle.refusal.specs.declared.Refusal.the-variants.{NothingWaiting, BrokenRecord}
-use Rattle.call.specs.declared.State.the-variants.{Linked, Unlinking}
-use Rattle.call.specs.declared.End.{End}
-use Rattle.call.specs.declared.Status.{Status}
-use Rattle.call.specs.declared.Status.the-variants.{Unknown, Unavail}
-use Rattle.call.specs.declared.Signal.{Signal}
-use Rattle.call.specs.declared.Signal.the-variants.{Upack, Ordinary, Teardown, Downack}
+use Rattle.ends.specs.declared.State.the-variants.{Linked, Unlinking}
+use Rattle.ends.specs.declared.End.{End}
+use Rattle.ends.specs.declared.Status.{Status}
+use Rattle.ends.specs.declared.Status.the-variants.{Unknown, Unavail}
+use Rattle.ends.specs.declared.Signal.{Signal}
+use Rattle.ends.specs.declared.Signal.the-variants.{Upack, Ordinary, Teardown, Downack}
 use Rattle.call.specs.declared.Call.{Call}
 use Rattle.call.specs.declared.Side.{Side}
 use Rattle.call.specs.declared.Side.the-variants.{Caller, Callee}
 use Rattle.call.specs.declared.Command.{Command}
 use Rattle.call.specs.declared.Command.the-variants.{Accept, Busy, Unobtainable, Send, Teardown as Hang-up, Deliver}
-use Rattle.call.specs.declared.Verdict.{Verdict}
-use Rattle.call.specs.declared.Verdict.the-variants.{Refuse as refuse, Become as become}
+use Rattle.ends.specs.declared.Verdict.{Verdict}
+use Rattle.ends.specs.declared.Verdict.the-variants.{Refuse as refuse, Become as become}
 use Rattle.call.specs.Protocol.{other, stateOf, queueTo, slot, signals, waiting, answers, speaks, tears, takes, fit, refusing, outcome, acted, step}
 use Rattle.call.specs.Parts.{oneSent, threeSent, replied}
 

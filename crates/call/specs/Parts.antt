@@ -4,18 +4,18 @@ use mathlib.Core.Bool.{cond}
 use mathlib.Core.List.{[], _∷_}
 use lib.Dec.{leb}
 use Rattle.refusal.specs.declared.Refusal.the-variants.{BrokenRecord}
-use Rattle.call.specs.declared.End.{End}
-use Rattle.call.specs.declared.Status.{Status}
-use Rattle.call.specs.declared.Signal.{Signal}
-use Rattle.call.specs.declared.Signal.the-variants.{Upack, Ordinary, Teardown, Downack}
+use Rattle.ends.specs.declared.End.{End}
+use Rattle.ends.specs.declared.Status.{Status}
+use Rattle.ends.specs.declared.Signal.{Signal}
+use Rattle.ends.specs.declared.Signal.the-variants.{Upack, Ordinary, Teardown, Downack}
 use Rattle.call.specs.declared.Queue.{Queue}
 use Rattle.call.specs.declared.Call.{Call}
 use Rattle.call.specs.declared.Side.{Side}
 use Rattle.call.specs.declared.Side.the-variants.{Callee}
 use Rattle.call.specs.declared.Answer.the-variants.{Accepted, Delivered}
 use Rattle.call.specs.declared.Step.{Step}
-use Rattle.call.specs.declared.Verdict.{Verdict}
-use Rattle.call.specs.declared.Verdict.the-variants.{Refuse as refuse, Become as become}
+use Rattle.ends.specs.declared.Verdict.{Verdict}
+use Rattle.ends.specs.declared.Verdict.the-variants.{Refuse as refuse, Become as become}
 use Rattle.call.specs.Protocol.{other, queueTo, push, pushes, pop, moved, refusing}
 
 -- a side's end goes on by a verdict and sends one signal, where there is room for it

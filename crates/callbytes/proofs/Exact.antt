@@ -6,8 +6,8 @@ use contract.Lifetimes.{Lfts}
 use denote.Ref.{RefT}
 use denote.Triple.Clauses.{AtExit}
 use borrow.Fn.Kinds.{endedOf}
-use Rattle.call.specs.declared.Signal.{Signal}
-use Rattle.call.specs.declared.Status.{Status}
+use Rattle.ends.specs.declared.Signal.{Signal}
+use Rattle.ends.specs.declared.Status.{Status}
 use Rattle.call.specs.declared.Call.{Call}
 use Rattle.callbytes.proofs.signal_number.Reads as signal-number
 use Rattle.callbytes.proofs.signal_tunnel.Reads as signal-tunnel

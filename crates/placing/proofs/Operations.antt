@@ -25,8 +25,8 @@ use Rattle.call.specs.declared.Call.{Call}
 use Rattle.call.specs.declared.Command.{Command}
 use Rattle.call.specs.Protocol.{isFree, cleared, nextUse}
 use Rattle.call.specs.Row.{Act, place, command, placed-at, Turn, recordAt, lowestFree, named, refuses, placeAt, put, turn, turns, own, placings}
-use Rattle.call.specs.Teardown.{AllFree, PlacedLowest, FirstTeardownIn, ClosesIn}
-use Rattle.call.proofs.Row.{turns-length, never17InRow, clearedRow, placing-law, demand3InRow, usesComeRound}
+use Rattle.teardown.specs.Teardown.{AllFree, PlacedLowest, FirstTeardownIn, ClosesIn}
+use Rattle.teardown.proofs.Row.{turns-length, never17InRow, clearedRow, placing-law, demand3InRow, usesComeRound}
 use Rattle.placing.specs.declared.Placed.{Placed}
 use Rattle.placing.specs.Rows.{laterFor, outcomeIn, answerIn, turned, answered, placedIn, rowAfter}
 use Rattle.placing.specs.Operations.{Operation, placing, commanding, rowOf, numberFor, rowsOf, Use, operating, clearing, used, Never17, actBy, actOf, actsOf, AsActs, CallPlaced, Demand3, PlacesLowest, Placing, OldName, OldNames}

@@ -16,7 +16,7 @@ use Rattle.call.specs.declared.Call.{Call}
 use Rattle.call.specs.declared.Command.{Command}
 use Rattle.call.specs.Protocol.{cleared, nextUse}
 use Rattle.call.specs.Row.{Act, place, command, recordAt, refuses, turn, turns, numberOfReply, own, placings}
-use Rattle.call.specs.Teardown.{AllFree, PlacedLowest, FirstTeardownIn, ClosesIn}
+use Rattle.teardown.specs.Teardown.{AllFree, PlacedLowest, FirstTeardownIn, ClosesIn}
 use Rattle.placing.specs.Rows.{outcomeIn, answerIn, placedIn, rowAfter}
 
 -- a placing of a setup under a plan, with n and m places in the two lists; or a command for a record and a use number

@@ -27,8 +27,8 @@ use Rattle.routing.specs.declared.Later.the-variants.{Nothing}
 use Rattle.routing.specs.declared.Outcome.the-variants.{Routed}
 use Rattle.routing.specs.Routing.{answer}
 use Rattle.journey.specs.Hops.{passedOn}
-use Rattle.call.specs.declared.State.the-variants.{Requesting, Linked, Unlinking}
-use Rattle.call.specs.Plays.{play, shows, p11, p12, p13}
+use Rattle.ends.specs.declared.State.the-variants.{Requesting, Linked, Unlinking}
+use Rattle.teardown.specs.Plays.{play, shows, p11, p12, p13}
 
 -- a box is answered the setup s
 abbrev pub made : Setup → Answer

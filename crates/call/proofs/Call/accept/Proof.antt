@@ -2,7 +2,7 @@
 use mathlib.Core.Path.{ap, _∙_, sym}
 use Rattle.call.specs.Parts.{oneSent}
 use Rattle.call.specs.declared.Side.the-variants.{Callee}
-use Rattle.call.specs.declared.Signal.the-variants.{Upack}
+use Rattle.ends.specs.declared.Signal.the-variants.{Upack}
 use Rattle.call.proofs.Steps.{accepts}
 use borrow.Author.Needs.{needs}
 use Rattle.call.proofs.Call.accept.Statement.{statement}

@@ -3,10 +3,10 @@ use mathlib.Core.Path.{_≡_, ap, ap₂, _∙_, sym}
 use Prim.Native.Nat.{_<_}
 use Rattle.call.specs.Protocol.{stateOf, queueTo, slot, takes}
 use Rattle.call.specs.Parts.{replied}
-use Rattle.call.specs.declared.End.{End}
-use Rattle.call.specs.declared.Signal.{Signal}
+use Rattle.ends.specs.declared.End.{End}
+use Rattle.ends.specs.declared.Signal.{Signal}
 use Rattle.call.specs.declared.Queue.{Queue}
-use Rattle.call.specs.declared.Verdict.the-variants.{Refuse, Become}
+use Rattle.ends.specs.declared.Verdict.the-variants.{Refuse, Become}
 use Rattle.call.proofs.Steps.{pos, deliver-none, deliver-refuse, deliver-become}
 use borrow.Author.Needs.{needs}
 use Rattle.call.proofs.Call.deliver.Statement.{statement}

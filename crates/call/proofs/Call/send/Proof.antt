@@ -2,9 +2,9 @@
 use mathlib.Core.Path.{ap, ap₂, _∙_, sym}
 use Rattle.call.specs.Protocol.{queueTo, speaks}
 use Rattle.call.specs.Parts.{oneSent}
-use Rattle.call.specs.declared.End.{End}
+use Rattle.ends.specs.declared.End.{End}
 use Rattle.call.specs.declared.Queue.{Queue}
-use Rattle.call.specs.declared.Signal.the-variants.{Ordinary}
+use Rattle.ends.specs.declared.Signal.the-variants.{Ordinary}
 use Rattle.call.proofs.Steps.{sends-one}
 use borrow.Author.Needs.{needs}
 use Rattle.call.proofs.Call.send.Statement.{statement}

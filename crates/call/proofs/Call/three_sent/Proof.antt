@@ -5,7 +5,7 @@ use Prim.Native.Nat.{_+_}
 use borrow.Author.Tests.{lt-leb, le-leb}
 use Rattle.call.specs.Protocol.{push, moved}
 use Rattle.call.specs.declared.Queue.{Queue}
-use Rattle.call.specs.declared.Signal.the-variants.{Ordinary, Teardown}
+use Rattle.ends.specs.declared.Signal.the-variants.{Ordinary, Teardown}
 use Rattle.call.specs.declared.Side.the-variants.{Callee}
 use Rattle.call.specs.declared.Answer.the-variants.{Accepted}
 use borrow.Author.Needs.{needs}

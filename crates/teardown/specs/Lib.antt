@@ -1,0 +1,2 @@
+pub mod Teardown
+pub mod Plays
