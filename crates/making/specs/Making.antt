@@ -1,9 +1,8 @@
 -- The three ways to make a setup (manual 5.4 to 5.6), with what is refused: 23, then 1 to 9 in ascending order. Assumes nothing.
 use Prim.Native.Nat.{ℕ}
-use mathlib.Core.Bool.{Bool, true, false, not, _&&_, _||_, cond}
-use mathlib.Core.List.{List, []}
+use mathlib.Core.Bool.{Bool, true, false, not, _&&_, _||_}
+use mathlib.Core.List.{List}
 use lib.Dec.{eqb}
-use lib.ListN.{length}
 use Rattle.typeset.specs.Sets.{has}
 use Rattle.refusal.specs.Numbers.{numberOf, placeOf}
 use Rattle.refusal.specs.declared.Place.{Place}
@@ -11,30 +10,25 @@ use Rattle.refusal.specs.declared.Place.the-variants.{Nowhere}
 use Rattle.refusal.specs.declared.Refusal.{Refusal}
 use Rattle.refusal.specs.declared.Refusal.the-variants.{RuleBroken, NoSuchType, NotForThisBox, WrongAddress, NotReversible, Malformed, NotRoutedHere, BadString, OwnAddress, AddressTooLarge}
 use Rattle.plan.specs.declared.Region.{Region}
-use Rattle.plan.specs.declared.Region.the-variants.{Source, Target}
 use Rattle.plan.specs.declared.Plan.{Plan}
 use Rattle.plan.specs.declared.Found.{Found}
 use Rattle.plan.specs.declared.Found.the-variants.{At, Nothing}
 use Rattle.plan.specs.Parts.{legal, at}
 use Rattle.plan.specs.Sound.{sound}
 use Rattle.plan.specs.Find.{lookup}
-use Rattle.zone.specs.declared.Zone.{Zone}
-use Rattle.zone.specs.Order.{held}
-use Rattle.setup.specs.declared.Dialled.{Dialled}
 use Rattle.setup.specs.declared.Route.{Route}
 use Rattle.setup.specs.declared.Route.the-variants.{Whole, Suffix, Listed}
-use Rattle.setup.specs.declared.Placing.{Placing}
-use Rattle.setup.specs.declared.Placing.the-variants.{NoPlacing, PlacedBy}
-use Rattle.setup.specs.declared.Outer.{Outer}
-use Rattle.setup.specs.declared.Outer.the-variants.{NoOuter, OuterAt}
 use Rattle.setup.specs.declared.Setup.{Setup}
 use Rattle.making.specs.declared.Maker.{Maker}
 use Rattle.making.specs.declared.Maker.the-variants.{Feature, Line, Trunk, Resource, Error}
 use Rattle.making.specs.declared.Outcome.{Outcome}
 use Rattle.making.specs.declared.Outcome.the-variants.{Made, Refused}
 use Rattle.making.specs.declared.Answer.{Answer}
-use Rattle.setup.specs.Dialling.{legalString, dialled, stringOf}
-use Rattle.setup.specs.Setups.{routing, other, routingAddress, listOf, wellFormed}
+use Rattle.setup.specs.Dialling.{legalString}
+use Rattle.setup.specs.Setups.{routing, routingAddress, wellFormed}
+pub use Rattle.made.specs.Made.{orKept, stringOr, outerFor, sourceIn, targetIn, turned}
+unfoldable pub use Rattle.made.specs.Made.{newSetup, further, continuedSetup, reversedSetup}
+unfoldable pub use Rattle.setup.specs.Setups.{blank as blankSetup}
 
 -- ---- the box that makes a setup (a resource or error box makes none, and an interface box has no type: the 0 beside them is never used)
 
@@ -92,75 +86,6 @@ addressHeld p (Trunk a) = eqb (kindOf p (lookup p a)) 2
 addressHeld p Resource = true
 addressHeld p Error = true
 
--- ---- the setup that is made
-
--- an argument that is not 0, or else what is kept
-abbrev pub orKept : ℕ → ℕ → ℕ
-orKept argument kept = cond (eqb argument 0) kept argument
-
--- a string that is not empty, or else what is kept
-abbrev pub stringOr : List ℕ → List ℕ → List ℕ
-stringOr argument kept = cond (eqb (length argument) 0) kept argument
-
--- outer goes with a new routing address, in the source region only
-abbrev pub outerFor : Region → ℕ → Outer
-outerFor Source a = OuterAt a
-outerFor Target a = NoOuter
-
--- new (5.4)
-unfoldable pub newSetup : ℕ → List ℕ → ℕ → Setup
-newSetup source string target = record {
-  region = Source;
-  source = source;
-  dialled = dialled string;
-  target = target;
-  route = Whole;
-  list = held [];
-  placing = NoPlacing;
-  outer = OuterAt source;
-}
-
--- the source and the target of a setup in region r, from its routing address and the other one
-abbrev pub sourceIn : Region → ℕ → ℕ → ℕ
-sourceIn Source routed opposite = routed
-sourceIn Target routed opposite = opposite
-
-abbrev pub targetIn : Region → ℕ → ℕ → ℕ
-targetIn Source routed opposite = opposite
-targetIn Target routed opposite = routed
-
--- What continued and reversed setups share, for a box with the address `box`, in region r. An argument for the routing address: that address, whole, and outer = the box's address in the
--- source region only. None: the routing address is the box's, the route is the one given here with its list and placing type, and outer is absent.
--- The other address is its argument, or else `kept`.
-unfoldable pub further : Region → ℕ → ℕ → ℕ → ℕ → Dialled → Route → Zone → Placing → Setup
-further r box sourceArg targetArg kept string route list placing = record {
-  region = r;
-  source = sourceIn r (orKept (routing r sourceArg targetArg) box) (orKept (other r sourceArg targetArg) kept);
-  dialled = string;
-  target = targetIn r (orKept (routing r sourceArg targetArg) box) (orKept (other r sourceArg targetArg) kept);
-  route = cond (eqb (routing r sourceArg targetArg) 0) route Whole;
-  list = cond (eqb (routing r sourceArg targetArg) 0) list (held []);
-  placing = cond (eqb (routing r sourceArg targetArg) 0) placing NoPlacing;
-  outer = cond (eqb (routing r sourceArg targetArg) 0) NoOuter (outerFor r box);
-}
-
--- continued (5.5): the same region; the route is kept; so are the other address and the string where none is given
-unfoldable pub continuedSetup : ℕ → Setup → ℕ → List ℕ → ℕ → Setup
-continuedSetup box s sourceArg string targetArg =
-    further (s .region) box sourceArg targetArg (other (s .region) (s .source) (s .target)) (dialled (stringOr string (stringOf (s .dialled))))
-    Listed (held (listOf (s .list))) NoPlacing
-
--- the region turns
-abbrev pub turned : Region → Region
-turned Source = Target
-turned Target = Source
-
--- reversed (5.6): suffix after the box's type; the other address, where none is given, is the stored source to the source region and the stored target to the target region
-unfoldable pub reversedSetup : ℕ → ℕ → Setup → ℕ → List ℕ → ℕ → Setup
-reversedSetup type box s sourceArg string targetArg =
-    further (turned (s .region)) box sourceArg targetArg (routing (turned (s .region)) (s .source) (s .target)) (dialled (stringOr string (stringOf (s .dialled))))
-    Suffix (held []) (PlacedBy type)
-
 -- ---- what is refused
 
 -- refused with r where the test fails, else what follows
@@ -215,18 +140,6 @@ reversedOutcome p m s sourceArg string targetArg =
     (unless (legal sourceArg && legal targetArg) AddressTooLarge Made))))))))
 
 -- ---- what is answered: the setup, or the refusal and a blank setup beside it
-
-unfoldable pub blankSetup : Setup
-blankSetup = record {
-  region = Source;
-  source = 0;
-  dialled = dialled [];
-  target = 0;
-  route = Whole;
-  list = held [];
-  placing = NoPlacing;
-  outer = NoOuter;
-}
 
 unfoldable pub answered : Outcome → Setup → Answer
 answered Made s = record { outcome = Made; setup = s }

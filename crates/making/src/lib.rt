@@ -1,29 +1,21 @@
 // The three ways to make a setup: new, continued and reversed.
 ghost use mathlib.Core.Path.{_≡_};
 ghost use mathlib.Core.Bool.{_&&_, cond};
-ghost use mathlib.Core.List.{[]};
 ghost use lib.Dec.{eqb};
-ghost use lib.ListN.{take};
 ghost use Rattle.typeset.specs.Sets.{has};
 ghost use Rattle.refusal.specs.declared.Place.the-variants.{Nowhere, At};
 ghost use Rattle.plan.specs.Parts.{legal};
 ghost use Rattle.plan.specs.Sound.{sound};
 ghost use Rattle.plan.specs.Find.{lookup};
-ghost use Rattle.zone.specs.Order.{held};
-ghost use Rattle.setup.specs.Dialling.{dialled, stringOf};
 ghost use Rattle.setup.specs.Setups.{wellFormed};
-ghost use Rattle.making.specs.Making.{boxAddress, boxType, kindOf, somebody, typeExists, makesNew, makesMore, addressHeld, orKept, stringOr, outerFor, newSetup, sourceIn, targetIn, further, continuedSetup, turned, reversedSetup, isList, notOwn, newOutcome, continuedOutcome, reversedOutcome, blankSetup, answered, newAnswer, continuedAnswer, reversedAnswer, numberOfOutcome, placeOfOutcome};
+ghost use Rattle.making.specs.Making.{boxAddress, boxType, kindOf, somebody, typeExists, makesNew, makesMore, addressHeld, isList, notOwn, newOutcome, continuedOutcome, reversedOutcome, answered, newAnswer, continuedAnswer, reversedAnswer, numberOfOutcome, placeOfOutcome};
 ghost use Rattle.making.specs.Rows.{firstOf, newRows, continuedRows, reversedRows};
 use plan::Found;
 use plan::Plan;
 use plan::Region;
 use refusal::Refusal;
-use setup::Dialled;
-use setup::Outer;
-use setup::Placing;
 use setup::Route;
 use setup::Setup;
-use zone::Zone;
 
 // The place of 23 for a plan in memory.
 const IN_MEMORY: usize = 0;
@@ -150,138 +142,6 @@ fn address_held(plan: Plan, maker: Maker) -> bool
     }
 }
 
-// ---- the setup that is made
-
-fn or_kept(argument: u32, kept: u32) -> u32
-    ensures { λ r. ⌜ r ≡ orKept argument kept ⌝ }
-{
-    if argument == 0 { kept } else { argument }
-}
-
-// A string that is not empty, or else the one that is kept.
-fn string_or(string: &[u8], kept: Dialled) -> Dialled
-    ensures { λ r. ⌜ r ≡ dialled (stringOr (take 32 (now (string .entry))) (stringOf kept)) ⌝ }
-{
-    if string.len() == 0 {
-        setup::kept_string(kept)
-    } else {
-        setup::dial(string)
-    }
-}
-
-fn turned(region: Region) -> Region
-    ensures { λ r. ⌜ r ≡ turned region ⌝ }
-{
-    match region {
-        Region::Source => Region::Target,
-        Region::Target => Region::Source,
-    }
-}
-
-fn source_in(region: Region, routed: u32, opposite: u32) -> u32
-    ensures { λ r. ⌜ r ≡ sourceIn region routed opposite ⌝ }
-{
-    match region {
-        Region::Source => routed,
-        Region::Target => opposite,
-    }
-}
-
-fn target_in(region: Region, routed: u32, opposite: u32) -> u32
-    ensures { λ r. ⌜ r ≡ targetIn region routed opposite ⌝ }
-{
-    match region {
-        Region::Source => opposite,
-        Region::Target => routed,
-    }
-}
-
-fn outer_for(region: Region, at: u32) -> Outer
-    ensures { λ r. ⌜ r ≡ outerFor region at ⌝ }
-{
-    match region {
-        Region::Source => Outer::OuterAt(at),
-        Region::Target => Outer::NoOuter,
-    }
-}
-
-fn empty_list() -> Zone
-    ensures { λ r. ⌜ r ≡ held [] ⌝ }
-{
-    Zone {
-        types: [0u8; 32],
-        len: 0,
-    }
-}
-
-fn empty_string() -> Dialled
-    ensures { λ r. ⌜ r ≡ dialled [] ⌝ }
-{
-    Dialled {
-        symbols: [0u8; 32],
-        len: 0,
-    }
-}
-
-fn new_of(source: u32, string: &[u8], target: u32) -> Setup
-    ensures { λ r. ⌜ r ≡ newSetup source (take 32 (now (string .entry))) target ⌝ }
-{
-    Setup {
-        region: Region::Source,
-        source,
-        dialled: setup::dial(string),
-        target,
-        route: Route::Whole,
-        list: empty_list(),
-        placing: Placing::NoPlacing,
-        outer: Outer::OuterAt(source),
-    }
-}
-
-// What a continued and a reversed setup share.
-fn further(
-    region: Region,
-    at: u32,
-    source_arg: u32,
-    target_arg: u32,
-    kept: u32,
-    dialled: Dialled,
-    route: Route,
-    list: Zone,
-    placing: Placing,
-) -> Setup
-    ensures { λ r. ⌜ r ≡ further region at «source_arg» «target_arg» kept dialled route list placing ⌝ }
-{
-    let given = setup::routing(region, source_arg, target_arg);
-    let routed = or_kept(given, at);
-    let opposite = or_kept(setup::other(region, source_arg, target_arg), kept);
-    let source = source_in(region, routed, opposite);
-    let target = target_in(region, routed, opposite);
-    if given == 0 {
-        Setup {
-            region,
-            source,
-            dialled,
-            target,
-            route,
-            list,
-            placing,
-            outer: Outer::NoOuter,
-        }
-    } else {
-        Setup {
-            region,
-            source,
-            dialled,
-            target,
-            route: Route::Whole,
-            list: empty_list(),
-            placing: Placing::NoPlacing,
-            outer: outer_for(region, at),
-        }
-    }
-}
-
 // ---- what is refused
 
 fn is_list(route: Route) -> bool
@@ -299,7 +159,7 @@ fn continuable(plan: Plan, s: Setup) -> bool
     ensures { λ r. ⌜ r ≡ (wellFormed plan s && isList (s .route)) ⌝ }
 {
     let route = s.route;
-    if !setup::well_formed(plan, s) {
+    if !faults::well_formed(plan, s) {
         return false;
     }
     is_list(route)
@@ -411,7 +271,7 @@ fn reversed_outcome(
 {
     let region = s.region;
     let at = box_address(maker);
-    let back = turned(region);
+    let back = made::turned(region);
     if !plan::sound(plan) {
         return Outcome::Refused(Refusal::RuleBroken(IN_MEMORY));
     }
@@ -427,7 +287,7 @@ fn reversed_outcome(
     if !reversible_type(plan, maker) {
         return Outcome::Refused(Refusal::NotReversible);
     }
-    if !setup::well_formed(plan, s) {
+    if !faults::well_formed(plan, s) {
         return Outcome::Refused(Refusal::Malformed);
     }
     if !setup::legal_string(string) {
@@ -444,21 +304,6 @@ fn reversed_outcome(
 
 // ---- the three ways to make a setup
 
-fn blank_setup() -> Setup
-    ensures { λ r. ⌜ r ≡ blankSetup ⌝ }
-{
-    Setup {
-        region: Region::Source,
-        source: 0,
-        dialled: empty_string(),
-        target: 0,
-        route: Route::Whole,
-        list: empty_list(),
-        placing: Placing::NoPlacing,
-        outer: Outer::NoOuter,
-    }
-}
-
 // A setup beside its outcome: a blank one beside a refusal.
 fn answered(outcome: Outcome, s: Setup) -> Answer
     ensures { λ r. ⌜ r ≡ answered outcome s ⌝ }
@@ -470,7 +315,7 @@ fn answered(outcome: Outcome, s: Setup) -> Answer
         },
         Outcome::Refused(r) => Answer {
             outcome: Outcome::Refused(r),
-            setup: blank_setup(),
+            setup: setup::blank_setup(),
         },
     }
 }
@@ -481,29 +326,8 @@ pub fn new_setup(plan: Plan, maker: Maker, string: &[u8], target_arg: u32) -> An
     ensures numbered { λ r. ⌜ (numberOfOutcome (r .outcome) ≡ firstOf (newRows plan maker (now (string .entry)) «target_arg»)) × (placeOfOutcome (r .outcome) ≡ cond (sound plan) Nowhere (At 0)) ⌝ }
 {
     let outcome = new_outcome(plan, maker, string, target_arg);
-    let made = new_of(box_address(maker), string, target_arg);
+    let made = made::new_of(box_address(maker), string, target_arg);
     answered(outcome, made)
-}
-
-fn continued_of(at: u32, s: Setup, source_arg: u32, string: &[u8], target_arg: u32) -> Setup
-    ensures { λ r. ⌜ r ≡ continuedSetup at s «source_arg» (take 32 (now (string .entry))) «target_arg» ⌝ }
-{
-    let region = s.region;
-    let stored = s.dialled;
-    let list = s.list;
-    let kept = setup::other(region, s.source, s.target);
-    let dialled = string_or(string, stored);
-    further(
-        region,
-        at,
-        source_arg,
-        target_arg,
-        kept,
-        dialled,
-        Route::Listed,
-        setup::kept_list(list),
-        Placing::NoPlacing,
-    )
 }
 
 // A setup continued (manual 5.5), for any plan, maker, stored setup and arguments.
@@ -519,36 +343,8 @@ pub fn continued_setup(
     ensures numbered { λ r. ⌜ (numberOfOutcome (r .outcome) ≡ firstOf (continuedRows plan maker s «source_arg» (now (string .entry)) «target_arg»)) × (placeOfOutcome (r .outcome) ≡ cond (sound plan) Nowhere (At 0)) ⌝ }
 {
     let outcome = continued_outcome(plan, maker, s, source_arg, string, target_arg);
-    let made = continued_of(box_address(maker), s, source_arg, string, target_arg);
+    let made = made::continued_of(box_address(maker), s, source_arg, string, target_arg);
     answered(outcome, made)
-}
-
-fn reversed_of(
-    kind: u8,
-    at: u32,
-    s: Setup,
-    source_arg: u32,
-    string: &[u8],
-    target_arg: u32,
-) -> Setup
-    ensures { λ r. ⌜ r ≡ reversedSetup kind at s «source_arg» (take 32 (now (string .entry))) «target_arg» ⌝ }
-{
-    let region = s.region;
-    let stored = s.dialled;
-    let back = turned(region);
-    let kept = setup::routing(back, s.source, s.target);
-    let dialled = string_or(string, stored);
-    further(
-        back,
-        at,
-        source_arg,
-        target_arg,
-        kept,
-        dialled,
-        Route::Suffix,
-        empty_list(),
-        Placing::PlacedBy(kind),
-    )
 }
 
 // A setup reversed (manual 5.6), for any plan, maker, setup once sent and arguments.
@@ -564,7 +360,7 @@ pub fn reversed_setup(
     ensures numbered { λ r. ⌜ (numberOfOutcome (r .outcome) ≡ firstOf (reversedRows plan maker s «source_arg» (now (string .entry)) «target_arg»)) × (placeOfOutcome (r .outcome) ≡ cond (sound plan) Nowhere (At 0)) ⌝ }
 {
     let outcome = reversed_outcome(plan, maker, s, source_arg, string, target_arg);
-    let made = reversed_of(
+    let made = made::reversed_of(
         box_type(maker),
         box_address(maker),
         s,

@@ -332,7 +332,7 @@ fn settled(
     if !plan::sound(plan) {
         return Later::Refuse(Refusal::RuleBroken(0));
     }
-    if !setup::well_formed_in(zone, types.reversible, out) {
+    if !faults::well_formed_in(zone, types.reversible, out) {
         return Later::Refuse(Refusal::Malformed);
     }
     if !roomy(source_room, target_room) {

@@ -5,11 +5,9 @@ use mathlib.Core.Bool.{Bool}
 use mathlib.Core.List.{List}
 use Prim.Native.Nat.{ℕ}
 use Rattle.plan.specs.declared.Region.{Region}
-use Rattle.plan.specs.declared.Plan.{Plan}
 use Rattle.zone.specs.declared.Zone.{Zone}
 use Rattle.setup.specs.declared.Dialled.{Dialled}
 use Rattle.setup.specs.declared.Setup.{Setup}
-use Rattle.setup.specs.declared.Fault.{Fault}
 use contract.Lifetimes.{Lfts}
 use denote.Ref.{RefT}
 use denote.Triple.Clauses.{AtExit}
@@ -29,10 +27,6 @@ use Rattle.setup.proofs.listed.Reads as listed
 use Rattle.setup.proofs.listed.Kinds as listed-kinds
 use Rattle.setup.proofs.list_length.Reads as list-length
 use Rattle.setup.proofs.blank_setup.Reads as blank-setup
-use Rattle.setup.proofs.fault_in.Reads as fault-in
-use Rattle.setup.proofs.fault_of.Reads as fault-of
-use Rattle.setup.proofs.well_formed_in.Reads as well-formed-in
-use Rattle.setup.proofs.well_formed.Reads as well-formed
 
 pub symbol-exact : (code : ℕ) (r s : Bool) → symbol.Post tt (code, tt) r (code, tt) → symbol.Post tt (code, tt) s (code, tt) → r ≡ s
 symbol-exact code r s p q = p ∙ sym q
@@ -63,12 +57,6 @@ other-exact region source target r s p q = p ∙ sym q
 pub routing-address-exact : (setup : Setup) (r s : ℕ) → routing-address.Post tt (setup, tt) r (setup, tt) → routing-address.Post tt (setup, tt) s (setup, tt) → r ≡ s
 routing-address-exact setup r s p q = p ∙ sym q
 
-pub fault-of-exact : (plan : Plan) (setup : Setup) (r s : Fault) → fault-of.Post tt (plan, (setup, tt)) r (plan, (setup, tt)) → fault-of.Post tt (plan, (setup, tt)) s (plan, (setup, tt)) → r ≡ s
-fault-of-exact plan setup r s p q = p ∙ sym q
-
-pub well-formed-exact : (plan : Plan) (setup : Setup) (r s : Bool) → well-formed.Post tt (plan, (setup, tt)) r (plan, (setup, tt)) → well-formed.Post tt (plan, (setup, tt)) s (plan, (setup, tt)) → r ≡ s
-well-formed-exact plan setup r s p q = p ∙ sym q
-
 pub listed-exact : (κs : Lfts 1) (bytes : RefT (List ℕ)) (end end′ : AtExit (endedOf 1 listed-kinds.ps listed-kinds.r) κs) (r s : Zone)
     → listed.Post κs (bytes, tt) r end → listed.Post κs (bytes, tt) s end′ → r ≡ s
 listed-exact κs bytes end end′ r s p q = p ∙ sym q
@@ -78,11 +66,3 @@ list-length-exact z r s p q = p ∙ sym q
 
 pub blank-setup-exact : (r s : Setup) → blank-setup.Post tt tt r tt → blank-setup.Post tt tt s tt → r ≡ s
 blank-setup-exact r s p q = p ∙ sym q
-
-pub fault-in-exact : (zone : Zone) (reversible : ℕ) (setup : Setup) (r s : Fault) → fault-in.Post tt (zone, (reversible, (setup, tt))) r (zone, (reversible, (setup, tt)))
-    → fault-in.Post tt (zone, (reversible, (setup, tt))) s (zone, (reversible, (setup, tt))) → r ≡ s
-fault-in-exact zone reversible setup r s p q = p ∙ sym q
-
-pub well-formed-in-exact : (zone : Zone) (reversible : ℕ) (setup : Setup) (r s : Bool) → well-formed-in.Post tt (zone, (reversible, (setup, tt))) r (zone, (reversible, (setup, tt)))
-    → well-formed-in.Post tt (zone, (reversible, (setup, tt))) s (zone, (reversible, (setup, tt))) → r ≡ s
-well-formed-in-exact zone reversible setup r s p q = p ∙ sym q

@@ -1,0 +1,74 @@
+-- `made::further` meets its contract. Assumes nothing.
+use mathlib.Core.Path.{sym, _∙_}
+use borrow.Author.Tests.{eq-eqb, ne-eqb}
+use Rattle.made.specs.Made.{further}
+use borrow.Author.Needs.{needs}
+use Rattle.made.proofs.further.Statement.{statement}
+use Rattle.made.proofs.further.Tie as tie
+
+routing-requires : tie.Need-routing-requires
+routing-requires c κs = search needs
+
+or-kept-requires : tie.Need-or-kept-requires
+or-kept-requires c κs = search needs
+
+other-requires : tie.Need-other-requires
+other-requires c κs = search needs
+
+or-kept-requires-2 : tie.Need-or-kept-requires-2
+or-kept-requires-2 c κs = search needs
+
+source-in-requires : tie.Need-source-in-requires
+source-in-requires c κs = search needs
+
+target-in-requires : tie.Need-target-in-requires
+target-in-requires c κs = search needs
+
+empty-list-requires : tie.Need-empty-list-requires
+empty-list-requires c κs = search needs
+
+outer-for-requires : tie.Need-outer-for-requires
+outer-for-requires c κs = search needs
+
+returns : tie.Need-returns
+unfolding further
+returns c =
+    rw (
+      c .before .before .source-in .ensures,
+      c .before .target-in .ensures,
+      c .before .before .before .or-kept2 .ensures,
+      c .before .before .before .before .before .or-kept .ensures,
+      c .before .before .before .before .other .ensures,
+      c .before .before .before .before .before .before .routing .ensures,
+      eq-eqb _ 0 (sym (c .before .before .before .before .before .before .routing .ensures) ∙ c .if1 .taken),
+    )
+
+returns-2 : tie.Need-returns-2
+unfolding further
+returns-2 c =
+    rw (
+      c .before .before .before .before .source-in .ensures,
+      c .before .before .before .target-in .ensures,
+      c .before .before .before .before .before .or-kept2 .ensures,
+      c .before .before .before .before .before .before .before .or-kept .ensures,
+      c .before .before .before .before .before .before .other .ensures,
+      c .before .before .before .before .before .before .before .before .routing .ensures,
+      ne-eqb _ 0 (λ z. c .before .before .if1 .left (c .before .before .before .before .before .before .before .before .routing .ensures ∙ z)),
+      c .before .empty-list .ensures,
+      c .outer-for .ensures,
+    )
+
+pub further-spec : {M : Type 1} → statement M
+further-spec =
+    tie.close
+    (tie.spec
+    routing-requires
+    or-kept-requires
+    other-requires
+    or-kept-requires-2
+    source-in-requires
+    target-in-requires
+    empty-list-requires
+    outer-for-requires
+    returns
+    returns-2)
