@@ -2,132 +2,15 @@
 use libc::STDOUT_FILENO;
 use plan::Plan;
 use plan::Subscriber;
-use plan::Verdict;
-use planwrite::Written;
-use refusal::Place;
-use refusal::Refusal;
-
-// An answer as numbers: 0 at 0 for a sound plan.
-struct Seen {
-    number: u8,
-    place: usize,
-}
-
-fn of_refusal(r: Refusal) -> Seen {
-    match r.place() {
-        Place::At(at) => Seen {
-            number: r.number(),
-            place: at,
-        },
-        Place::Nowhere => Seen {
-            number: r.number(),
-            place: 0,
-        },
-    }
-}
-
-fn of_reading(bytes: &[u8]) -> Seen {
-    let reading = planread::read(bytes);
-    let answer = reading.answer;
-    match answer {
-        Verdict::Sound => Seen {
-            number: 0,
-            place: 0,
-        },
-        Verdict::Refused(r) => of_refusal(r),
-    }
-}
-
-// The first n bytes of a file, read.
-fn first(file: &[u8], n: usize) -> Seen {
-    if n <= file.len() {
-        of_reading(&file[..n])
-    } else {
-        Seen {
-            number: 255,
-            place: 0,
-        }
-    }
-}
-
-fn same(a: Seen, number: u8, place: usize) -> bool {
-    if a.number != number {
-        return false;
-    }
-    a.place == place
-}
-
-fn answer(s: Seen) {
-    if s.number == 0 {
-        io::write_all(STDOUT_FILENO, b": sound");
-    } else {
-        io::write_all(STDOUT_FILENO, b": refused ");
-        io::print_decimal(STDOUT_FILENO, s.number as u64);
-        io::write_all(STDOUT_FILENO, b" at ");
-        io::print_decimal(STDOUT_FILENO, s.place as u64);
-    }
-}
-
-// A line: what was tried, what came, and whether that is right.
-fn line(what: &[u8], seen: Seen, number: u8, place: usize) {
-    io::write_all(STDOUT_FILENO, what);
-    answer(seen);
-    if same(seen, number, place) {
-        io::write_all(STDOUT_FILENO, b", right\n");
-    } else {
-        io::write_all(STDOUT_FILENO, b", WRONG\n");
-    }
-}
-
-fn put(file: &mut [u8], at: usize, b: u8) {
-    if at < file.len() {
-        file[at] = b;
-    }
-}
-
-// The byte at a place; 0 past the end.
-fn byte(file: &[u8], at: usize) -> u8 {
-    if at < file.len() { file[at] } else { 0 }
-}
-
-// The first n bytes with one of them changed; the file is as it was afterwards.
-fn with_byte(file: &mut [u8], n: usize, at: usize, b: u8) -> Seen {
-    let old = byte(file, at);
-    put(file, at, b);
-    let seen = first(file, n);
-    put(file, at, old);
-    seen
-}
-
-// The same with two of them changed.
-fn with_two(file: &mut [u8], n: usize, at: usize, b: u8, other: usize, c: u8) -> Seen {
-    let old = byte(file, at);
-    put(file, at, b);
-    let seen = with_byte(file, n, other, c);
-    put(file, at, old);
-    seen
-}
-
-// Lines for files with one byte, and with two bytes, changed.
-fn changed(what: &[u8], file: &mut [u8], n: usize, at: usize, b: u8, number: u8, place: usize) {
-    let seen = with_byte(file, n, at, b);
-    line(what, seen, number, place);
-}
-
-fn changed_two(
-    what: &[u8],
-    file: &mut [u8],
-    n: usize,
-    at: usize,
-    b: u8,
-    other: usize,
-    c: u8,
-    number: u8,
-    place: usize,
-) {
-    let seen = with_two(file, n, at, b, other, c);
-    line(what, seen, number, place);
-}
+use plantrials::byte;
+use plantrials::byte_line;
+use plantrials::changed;
+use plantrials::changed_two;
+use plantrials::first;
+use plantrials::line;
+use plantrials::put;
+use plantrials::same;
+use plantrials::write_first;
 
 // ---- the teaching plan's file
 
@@ -350,59 +233,6 @@ fn teaching_file(file: &mut [u8]) {
     truncations(file);
     all_headers(file);
     faults(file);
-}
-
-// ---- writing
-
-fn of_writing(w: Written) -> Seen {
-    match w {
-        Written::Bytes(n) => Seen {
-            number: 0,
-            place: n,
-        },
-        Written::Refused(r) => of_refusal(r),
-    }
-}
-
-fn write_line(what: &[u8], seen: Seen, number: u8, place: usize) {
-    io::write_all(STDOUT_FILENO, what);
-    if seen.number == 0 {
-        io::write_all(STDOUT_FILENO, b": bytes ");
-        io::print_decimal(STDOUT_FILENO, seen.place as u64);
-    } else {
-        answer(seen);
-    }
-    if same(seen, number, place) {
-        io::write_all(STDOUT_FILENO, b", right\n");
-    } else {
-        io::write_all(STDOUT_FILENO, b", WRONG\n");
-    }
-}
-
-fn write_first(what: &[u8], plan: Plan, room: &mut [u8], n: usize, number: u8, place: usize) {
-    let seen = write_into(plan, room, n);
-    write_line(what, seen, number, place);
-}
-
-// Into the first n bytes of the room.
-fn write_into(plan: Plan, room: &mut [u8], n: usize) -> Seen {
-    if n <= room.len() {
-        of_writing(planwrite::write(plan, &mut room[..n]))
-    } else {
-        Seen {
-            number: 255,
-            place: 0,
-        }
-    }
-}
-
-fn byte_line(what: &[u8], seen: u8, wanted: u8) {
-    io::write_all(STDOUT_FILENO, what);
-    if seen == wanted {
-        io::write_all(STDOUT_FILENO, b", right\n");
-    } else {
-        io::write_all(STDOUT_FILENO, b", WRONG\n");
-    }
 }
 
 fn unwritten(plan: Plan, room: &mut [u8]) {

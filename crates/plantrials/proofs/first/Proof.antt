@@ -1,9 +1,9 @@
--- `planvectors::first` meets its contract. Assumes nothing.
+-- `plantrials::first` meets its contract. Assumes nothing.
 use mathlib.Core.Path.{sym}
 use lib.Seq.{length-take-le}
 use borrow.Author.Needs.{needs}
-use Rattle.planvectors.proofs.first.Statement.{statement}
-use Rattle.planvectors.proofs.first.Tie as tie
+use Rattle.plantrials.proofs.first.Statement.{statement}
+use Rattle.plantrials.proofs.first.Tie as tie
 
 slice-aggregate-of-reading : tie.Need-slice-aggregate-of-reading
 slice-aggregate-of-reading c = sym (length-take-le (c .before .before .before .args .n) (c .before .before .before .args .file .now) (c .before .if1 .taken))

@@ -1,8 +1,8 @@
--- `making_vectors::same_places` meets its contract. The loop passes 32 places. Assumes nothing.
+-- `making_trials::same_places` meets its contract. The loop passes 32 places. Assumes nothing.
 use Prim.Native.Nat.{_≤_, _-_}
 use borrow.Author.Needs.{needs}
-use Rattle.making_vectors.proofs.same_places.Statement.{statement}
-use Rattle.making_vectors.proofs.same_places.Tie as tie
+use Rattle.making_trials.proofs.same_places.Statement.{statement}
+use Rattle.making_trials.proofs.same_places.Tie as tie
 
 abbrev Inv-loop : tie.InvT-loop
 Inv-loop a b i₀ i = i ≤ 32

@@ -1,8 +1,8 @@
--- `making_vectors::say_string` meets its contract. The loop passes 32 places. Assumes nothing.
+-- `making_trials::say_string` meets its contract. The loop passes 32 places. Assumes nothing.
 use Prim.Native.Nat.{_≤_, _-_}
 use borrow.Author.Needs.{needs}
-use Rattle.making_vectors.proofs.say_string.Statement.{statement}
-use Rattle.making_vectors.proofs.say_string.Tie as tie
+use Rattle.making_trials.proofs.say_string.Statement.{statement}
+use Rattle.making_trials.proofs.say_string.Tie as tie
 
 abbrev Inv-loop : tie.InvT-loop
 Inv-loop d symbols len i₀ t6 t7 i = i ≤ 32

@@ -1,9 +1,9 @@
--- `planvectors::write_into` meets its contract. Assumes nothing.
+-- `plantrials::write_into` meets its contract. Assumes nothing.
 use mathlib.Core.Path.{sym}
 use lib.Seq.{length-take-le}
 use borrow.Author.Needs.{needs}
-use Rattle.planvectors.proofs.write_into.Statement.{statement}
-use Rattle.planvectors.proofs.write_into.Tie as tie
+use Rattle.plantrials.proofs.write_into.Statement.{statement}
+use Rattle.plantrials.proofs.write_into.Tie as tie
 
 slice-relend-prefix-write : tie.Need-slice-relend-prefix-write
 slice-relend-prefix-write c = search needs

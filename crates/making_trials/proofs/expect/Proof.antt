@@ -1,10 +1,10 @@
--- `making_vectors::expect` meets its contract. Assumes nothing.
+-- `making_trials::expect` meets its contract. Assumes nothing.
 use mathlib.Core.Path.{_≡_}
 use native.Mathlib.Omega.{arith}
 use lib.ListN.{length, length-take}
 use borrow.Author.Needs.{needs}
-use Rattle.making_vectors.proofs.expect.Statement.{statement}
-use Rattle.making_vectors.proofs.expect.Tie as tie
+use Rattle.making_trials.proofs.expect.Statement.{statement}
+use Rattle.making_trials.proofs.expect.Tie as tie
 
 text-requires : tie.Need-text-requires
 text-requires c κs = search needs
