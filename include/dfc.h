@@ -58,7 +58,7 @@ enum { DFC_SOURCE = 0, DFC_TARGET = 1 };
  *        71    8     33  the list: how many types (0 to 32), then 32 places
  *       107  127      0
  * What stands in a place past a string's or list's length does not count; setups made here have 0 there.
- * Bytes that are not of this form, or not 110, are refused with 5. */
+ * Bytes that are not of this form, or not 110, are refused where a setup that is not well formed would be: with 5, or with an earlier refusal that applies. */
 #define DFC_SETUP 110
 
 typedef struct {

@@ -49,6 +49,10 @@ turn-answer row zs a r u k e = ap (λ (t : Turn). answerOf (t .reply)) (e ∙ sy
 pub turn-row : (row zs : List Call) (a : Answer) (r u : ℕ) (k : Command) → answering a zs ≡ turn row (command r u k) → zs ≡ set row r (commanded (length row) (takenAt row r) u k .call)
 turn-row row zs a r u k e = ap (λ (t : Turn). t .row) (e ∙ sym (commanded-is row r u k))
 
+-- the answer and the row can be read off the two together
+pub answering-fixes : (a b : Answer) (xs ys : List Call) → answering a xs ≡ answering b ys → (a ≡ b) × (xs ≡ ys)
+answering-fixes a b xs ys e = (ap (λ (t : Turn). answerOf (t .reply)) e, ap (λ (t : Turn). t .row) e)
+
 -- EVERY OTHER RECORD is as it was after a command, and there are as many.
 pub others : (row : List Call) (r u j : ℕ) (k : Command) → (j ≡ r → ⊥) → recordAt (turn row (command r u k) .row) j ≡ recordAt row j
 others row r u j k ne =

@@ -1,9 +1,11 @@
--- The public operations on a lent row, one after the other, refused ones included; and what holds of a row on which nothing else was done. The statements are proved in proofs/Operations.antt. Assumes nothing.
+-- The public operations on a lent row and on a lent port, one after the other, refused ones included; and what holds of a row or a port to which nothing else was done. The statements are proved in proofs/Operations.antt. Assumes nothing.
 use Prim.Native.Nat.{ℕ, _≤_, _<_}
 use mathlib.Core.Path.{_≡_}
 use mathlib.Core.Logic.{_≢_}
 use mathlib.Core.List.{List, [], _∷_, _++_}
-use lib.ListN.{length, replicate}
+use lib.Dec.{T}
+use mathlib.Core.Bool.{not}
+use lib.ListN.{length, set, replicate}
 use Rattle.refusal.specs.declared.Refusal.the-variants.{NoSuchCall}
 use Rattle.plan.specs.declared.Plan.{Plan}
 use Rattle.setup.specs.declared.Setup.{Setup}
@@ -14,9 +16,9 @@ use Rattle.routing.specs.declared.Outcome.the-variants.{Routed, Refused}
 use Rattle.routing.specs.Routing.{outcome, answer, numberOfOutcome}
 use Rattle.call.specs.declared.Call.{Call}
 use Rattle.call.specs.declared.Command.{Command}
-use Rattle.call.specs.Protocol.{cleared, nextUse}
-use Rattle.call.specs.Row.{Act, place, command, recordAt, refuses, turn, turns, numberOfReply, own, placings}
-use Rattle.teardown.specs.Teardown.{AllFree, PlacedLowest, FirstTeardownIn, ClosesIn}
+use Rattle.call.specs.Row.{Act, place, command, recordAt, refuses, put, turn, turns, numberOfReply, own, placings}
+use Rattle.call.specs.Protocol.{isFree, step, numberIn, cleared, nextUse}
+use Rattle.teardown.specs.Teardown.{PlacedLowest, FirstTeardownIn, ClosesIn}
 use Rattle.placing.specs.Rows.{outcomeIn, answerIn, placedIn, rowAfter}
 
 -- a placing of a setup under a plan, with n and m places in the two lists; or a command for a record and a use number
@@ -37,19 +39,49 @@ abbrev pub rowsOf : List Call → List Operation → List Call
 rowsOf row [] = row
 rowsOf row (x ∷ xs) = rowsOf (rowOf row x) xs
 
--- the same with clearing among them
+-- The public operations on a lent port, which is one record: placing as in a row of one, and the record's own commands.
+pub data PortOperation : Type 0 where
+  placing-there : (p : Plan) (s : Setup) (n m : ℕ) → PortOperation
+  commanding-it : Command → PortOperation
+
+abbrev pub portOf : Call → PortOperation → Call
+portOf c (placing-there p s n m) = recordAt (rowAfter (c ∷ []) p s n m) 0
+portOf c (commanding-it k) = step c k .call
+
+abbrev pub portNumber : Call → PortOperation → ℕ
+portNumber c (placing-there p s n m) = numberOfOutcome (outcomeIn (c ∷ []) p s n m)
+portNumber c (commanding-it k) = numberIn (step c k .answer)
+
+-- What may be done to a row: these, the operations of a port on its record r, lent alone, and clearing. `exchange::store` is none of them, nor is writing a record's fields: it is a part of placing and of commands, and puts any record into a row, one that no call led to among them.
 pub data Use : Type 0 where
   operating : Operation → Use
+  lending : (r : ℕ) → PortOperation → Use
   clearing : Use
 
 abbrev pub used : List Call → List Use → List Call
 used row [] = row
 used row (operating x ∷ xs) = used (rowOf row x) xs
+used row (lending r x ∷ xs) = used (set row r (portOf (recordAt row r) x)) xs
 used row (clearing ∷ xs) = used (replicate (length row) cleared) xs
 
--- IN A ROW THAT BEGAN CLEARED 17 NEVER OCCURS, whatever operations came before.
-abbrev pub Never17 : Type 0
-Never17 = (n : ℕ) (before : List Use) (x : Operation) → numberFor (used (replicate n cleared) before) x ≢ 17
+-- and to a port
+pub data PortUse : Type 0 where
+  operating-it : PortOperation → PortUse
+  clearing-it : PortUse
+
+abbrev pub portUsed : Call → List PortUse → Call
+portUsed c [] = c
+portUsed c (operating-it x ∷ xs) = portUsed (portOf c x) xs
+portUsed c (clearing-it ∷ xs) = portUsed cleared xs
+
+-- IN A ROW THAT BEGAN CLEARED 17 NEVER OCCURS, whatever was done before: neither in an operation on the row nor in one on a record of it that is lent as a port.
+pub record Never17 : Type 0 where
+  pub in-row : (n : ℕ) (before : List Use) (x : Operation) → numberFor (used (replicate n cleared) before) x ≢ 17
+  pub in-record : (n : ℕ) (before : List Use) (r : ℕ) (x : PortOperation) → portNumber (recordAt (used (replicate n cleared) before) r) x ≢ 17
+
+-- Nor does it in a port that began cleared.
+abbrev pub PortNever17 : Type 0
+PortNever17 = (before : List PortUse) (x : PortOperation) → portNumber (portUsed cleared before) x ≢ 17
 
 -- THE CALL'S THEOREMS HOLD OF THESE OPERATIONS: what they do to a row is what the acts do that the call's own theorems speak of. A placing that is refused is no act.
 abbrev pub actBy : Outcome → List Act
@@ -90,10 +122,12 @@ pub record PlacesLowest (row : List Call) (p : Plan) (s : Setup) (n m : ℕ) : T
 abbrev pub Placing : Type 0
 Placing = (row : List Call) (p : Plan) (s : Setup) (n m : ℕ) (c : Callee) → outcomeIn row p s n m ≡ Routed c → PlacesLowest row p s n m
 
--- AN OLD NAME (C7): after one placing and fewer than 65,536 in its record, a command by the use number of then is refused 10; after 65,536 the number fits again.
+-- AN OLD NAME (C7): after one placing and fewer than 65,536 in its record, a command by the use number of then is refused 10; after 65,536 it fits again: the number is the record's, and where the record is in use the command is answered by the record's own step.
 pub record OldName (row : List Call) (acts : List Act) (r : ℕ) : Type 0 where
   pub refused : placings (own r row acts) < 65536 → (k : Command) → turn (turns row acts) (command r (recordAt row r .«use_number») k) ≡ refuses NoSuchCall (turns row acts)
   pub again : placings (own r row acts) ≡ 65536 → recordAt (turns row acts) r .«use_number» ≡ recordAt row r .«use_number»
+  pub fits : placings (own r row acts) ≡ 65536 → T (not (isFree (recordAt (turns row acts) r))) → (k : Command)
+      → turn (turns row acts) (command r (recordAt row r .«use_number») k) ≡ put (turns row acts) r (step (recordAt (turns row acts) r) k)
 
 abbrev pub OldNames : Type 0
 OldNames =

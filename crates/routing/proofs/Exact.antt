@@ -36,3 +36,9 @@ pub route-numbered : (κs : Lfts 2) (plan : Plan) (out : Setup) (source target :
     → (numberOfOutcome (r .outcome) ≡ numberGiven plan out Nothing (length (source .now)) (length (target .now)))
     × (placeOfOutcome (r .outcome) ≡ placeGiven plan out Nothing (length (source .now)) (length (target .now)))
 route-numbered κs plan out source target end r p = said plan out Nothing (length (source .now)) (length (target .now)) r (p .0)
+
+pub route-unless-numbered : (κs : Lfts 2) (plan : Plan) (out : Setup) (later : Later) (source target : RefT (List ℕ)) (end : AtExit (endedOf 2 route-unless-kinds.ps route-unless-kinds.r) κs) (r : Answer)
+    → route-unless.Post κs (plan, (out, (later, (source, (target, tt))))) r end
+    → (numberOfOutcome (r .outcome) ≡ numberGiven plan out later (length (source .now)) (length (target .now)))
+    × (placeOfOutcome (r .outcome) ≡ placeGiven plan out later (length (source .now)) (length (target .now)))
+route-unless-numbered κs plan out later source target end r p = said plan out later (length (source .now)) (length (target .now)) r (p .0)

@@ -97,6 +97,6 @@ unfoldable pub same : List ℕ → List ℕ → Bool
 same a b = every 110 (λ i. eqb (getD a i 0) (getD b i 0))
 
 -- The setup that some bytes are: the one whose 110 bytes they are. Bytes that are no setup's stand for the blank setup, which is not well formed (it has no routing address), so that
--- every operation refuses them with 5.
+-- every operation refuses them where it refuses such a setup: with 5, or with an earlier refusal that applies.
 unfoldable pub setupIn : List ℕ → Setup
 setupIn b = cond (eqb (length b) 110 && same (setupBytes (fieldsIn b)) b) (fieldsIn b) blank

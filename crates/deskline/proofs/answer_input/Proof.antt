@@ -1,4 +1,4 @@
--- `desk::main` meets its contract. Assumes nothing.
+-- `deskline::answer_input` meets its contract. Assumes nothing.
 use lib.ListN.{take}
 use mathlib.Core.Path.{_≡_, refl, sym, ap, _∙_}
 use Prim.Native.Nat.{_≤_, min}
@@ -8,8 +8,8 @@ use lib.Seq.{length-sets}
 use Rattle.journey.specs.Desk.{deskText}
 use Rattle.journey.proofs.Desks.{desk-fits}
 use borrow.Author.Needs.{needs}
-use Rattle.desk.proofs.main.Statement.{statement}
-use Rattle.desk.proofs.main.Tie as tie
+use Rattle.deskline.proofs.answer_input.Statement.{statement}
+use Rattle.deskline.proofs.answer_input.Tie as tie
 
 slice-aggregate-read-line : tie.Need-slice-aggregate-read-line
 slice-aggregate-read-line c = search needs
@@ -27,7 +27,7 @@ array-share-prefix-line : tie.Need-array-share-prefix-line
 array-share-prefix-line c = search needs
 
 slice-aggregate-desk : tie.Need-slice-aggregate-desk
-slice-aggregate-desk c = simp length-take (omega (arith, c .before .before .before .before .read-line .ensures))
+slice-aggregate-desk c = simp length-take (omega (arith, c .before .before .before .before .read-line .ensures .0))
 
 slice-aggregate-desk-2 : tie.Need-slice-aggregate-desk-2
 slice-aggregate-desk-2 c = search needs
@@ -57,8 +57,8 @@ write-all-requires c κs = search needs
 returns : tie.Need-returns
 returns c = search needs
 
-pub main-spec : {M : Type 1} → statement M
-main-spec =
+pub answer-input-spec : {M : Type 1} → statement M
+answer-input-spec =
     tie.close
     (tie.spec
     slice-aggregate-read-line

@@ -1,0 +1,4 @@
+// `desk` with another input in the gate: none at all.
+fn main() {
+    deskline::answer_input();
+}
