@@ -7,8 +7,6 @@ use Rattle.callbytes.proofs.Slots.{past-end, free-by-states}
 use borrow.Author.Needs.{needs}
 use Rattle.callbytes.proofs.free_at.Statement.{statement}
 use Rattle.callbytes.proofs.free_at.Tie as tie
-use Rattle.callbytes.proofs.free_at.Reads as reads
-use Rattle.callbytes.proofs.free_at.Lts as lts
 
 returns : tie.Need-returns
 returns c = sym (ap isFree (past-end (c .before .args .b .now) (c .before .args .at) (c .if1 .taken)))

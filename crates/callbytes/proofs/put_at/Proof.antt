@@ -6,10 +6,6 @@ use Rattle.callbytes.proofs.Slots.{put-past-end}
 use borrow.Author.Needs.{needs}
 use Rattle.callbytes.proofs.put_at.Statement.{statement}
 use Rattle.callbytes.proofs.put_at.Tie as tie
-use Rattle.callbytes.proofs.put_at.Reads as reads
-use Rattle.callbytes.proofs.put_at.Lts as lts
-use Rattle.callbytes.proofs.call_bytes.Reads as call-bytes-reads
-use Rattle.callbytes.proofs.store.Reads as store-reads
 
 returns : tie.Need-returns
 returns c = sym (put-past-end (c .before .before .args .room .now) (c .before .before .args .at) (c .before .before .args .c) (c .if1 .taken))

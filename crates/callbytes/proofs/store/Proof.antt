@@ -8,8 +8,6 @@ use Rattle.setupbytes.proofs.Stores.{put-all, put-next, put-done}
 use borrow.Author.Needs.{needs}
 use Rattle.callbytes.proofs.store.Statement.{statement}
 use Rattle.callbytes.proofs.store.Tie as tie
-use Rattle.callbytes.proofs.store.Reads as reads
-use Rattle.callbytes.proofs.store.Lts as lts
 
 abbrev Inv-loop : tie.InvT-loop
 Inv-loop room₀ at bytes i₀ room i = (i ≤ length bytes) × (length room ≡ length room₀) × (sets room (at + i) (drop i bytes) ≡ sets room₀ at bytes)
