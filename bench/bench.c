@@ -32,6 +32,54 @@ OPERATION(new, dfc_new(file, file_size, DFC_FEATURE, 2, maker, (const uint8_t *)
 OPERATION(route, dfc_route(file, file_size, sent, DFC_SETUP, list[0], 32, list[1], 32, made).value,
           peer_route(file, file_size, sent, DFC_SETUP, list[0], 32, list[1], 32, made).value)
 
+/* ---- calls: a row of 1,024 in which one record is free, the first or the last */
+
+#define RECORDS 1024
+static uint8_t row_of[2][RECORDS * DFC_CALL]; /* ours, the peer's */
+static size_t free_record;
+
+static void all_taken_but(size_t r) {
+    free_record = r;
+    for (int side = 0; side < 2; side++) {
+        memset(row_of[side], 0, sizeof row_of[side]);
+        for (size_t k = 0; k < RECORDS; k++)
+            if (k != r) row_of[side][k * DFC_CALL] = row_of[side][k * DFC_CALL + 1] = 3;
+    }
+}
+
+/* Placing leaves the record taken; its two states are put back, by both sides alike. */
+#define CALLS(name, side, n)                                                                                                               \
+    static dfc_placed name##_placed(void) {                                                                                                \
+        return side##_place(file, file_size, sent, DFC_SETUP, row_of[n], sizeof row_of[n], list[0], 32, list[1], 32, made);                \
+    }                                                                                                                                      \
+    static void name##_place(void) {                                                                                                       \
+        dfc_placed p = name##_placed();                                                                                                    \
+        row_of[n][p.record_number * DFC_CALL] = row_of[n][p.record_number * DFC_CALL + 1] = 0;                                             \
+        sink += p.record_number;                                                                                                           \
+    }                                                                                                                                      \
+    static uint64_t name##_do(dfc_placed p, uint8_t kind, uint8_t by, uint8_t signal, uint8_t tunnel, uint8_t code) {                      \
+        dfc_commanded c = side##_command(row_of[n], sizeof row_of[n], p.record_number, (uint16_t)p.use_number, kind, by, signal, tunnel, code); \
+        if (c.number) printf("refused: %llu\n", (unsigned long long)c.number), exit(1);                                                    \
+        return c.signal;                                                                                                                   \
+    }                                                                                                                                      \
+    /* answered, a status and a tone one way, a status the other way, torn down by the caller: all delivered, and the record free again */ \
+    static void name##_talk(dfc_placed p) {                                                                                                \
+        sink += name##_do(p, DFC_ACCEPT, 0, 0, 0, 0) + name##_do(p, DFC_DELIVER, DFC_CALLER, 0, 0, 0);                                     \
+        sink += name##_do(p, DFC_SEND, DFC_CALLEE, DFC_AVAIL, 0, 0) + name##_do(p, DFC_SEND, DFC_CALLER, DFC_DTMF, 1, 5);                  \
+        sink += name##_do(p, DFC_SEND, DFC_CALLER, DFC_NONE, 0, 0) + name##_do(p, DFC_DELIVER, DFC_CALLER, 0, 0, 0);                       \
+        sink += name##_do(p, DFC_DELIVER, DFC_CALLEE, 0, 0, 0) + name##_do(p, DFC_DELIVER, DFC_CALLEE, 0, 0, 0);                           \
+        sink += name##_do(p, DFC_SEND_TEARDOWN, DFC_CALLER, 0, 0, 0) + name##_do(p, DFC_DELIVER, DFC_CALLEE, 0, 0, 0);                     \
+        sink += name##_do(p, DFC_DELIVER, DFC_CALLER, 0, 0, 0);                                                                            \
+    }                                                                                                                                      \
+    static void name##_life(void) { name##_talk(name##_placed()); }                                                                        \
+    static void name##_commands(void) {                                                                                                    \
+        uint8_t *b = row_of[n] + free_record * DFC_CALL;                                                                                   \
+        b[0] = 1, b[1] = 2;                                                                                                                \
+        name##_talk((dfc_placed){.record_number = free_record, .use_number = (uint64_t)b[2] << 8 | b[3]});                                 \
+    }
+CALLS(ours, dfc, 0)
+CALLS(peers, peer, 1)
+
 /* ---- the stack: a call on a painted stack of its own */
 
 static uint8_t painted[STACK] __attribute__((aligned(64)));
@@ -129,11 +177,20 @@ static void setup_rows(const char *plan) {
     named_row("route", plan, ours_route, peer_route_once);
 }
 
+static void call_rows(const char *where, size_t r) {
+    all_taken_but(r);
+    named_row("place in 1,024", where, ours_place, peers_place);
+    named_row("a call's life", where, ours_life, peers_life);
+    named_row("its 11 commands", where, ours_commands, peers_commands);
+}
+
 int main(void) {
     printf("| operation                          |   ours ns |   peer ns | ratio | stack B |  peer B |\n|---|---|---|---|---|---|\n");
     take(teaching);
     file_rows("teaching plan");
     setup_rows("teaching plan");
+    call_rows("free record first", 0);
+    call_rows("free record last", RECORDS - 1);
     take(many);
     file_rows("256 subscribers");
     setup_rows("256 subscribers");

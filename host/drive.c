@@ -5,8 +5,18 @@
 #include <stdio.h>
 #include <stdlib.h>
 
-enum { CHECK, WRITE, ZONE, NEW, CONTINUED, REVERSED, ROUTE, OPERATIONS };
-static const char *const name[OPERATIONS] = {"check", "write", "zone", "new", "continued", "reversed", "route"};
+enum { CHECK, WRITE, ZONE, NEW, CONTINUED, REVERSED, ROUTE, PLACE, PORT_PLACE, COMMAND, PORT_COMMAND, CLEAR, OPERATIONS };
+static const char *const name[OPERATIONS] = {"check", "write", "zone",       "new",     "continued",    "reversed",
+                                             "route", "place", "port place", "command", "port command", "clear"};
+
+/* each side's row and port: the same before a case and compared after it, with junk behind what is lent */
+#define ROW_MAX (1030 * DFC_CALL)
+#define JUNK 64
+typedef struct {
+    uint8_t row[ROW_MAX + JUNK], port[DFC_CALL + JUNK];
+} calls;
+static calls ours_calls, peers_calls, before;
+static size_t row_size;
 
 static uint64_t seed, number, done[OPERATIONS], accepted[OPERATIONS];
 static any_plan p;
@@ -19,9 +29,12 @@ typedef struct {
     uint8_t kind, type, region, string[40], in[DFC_SETUP + 8];
     uint32_t address, source, target;
     size_t string_size, in_size, room_size, source_size, target_size;
+    size_t record_number;
+    uint16_t use_number;
+    uint8_t command, of_side, signal, tunnel, code;
 } input;
 typedef struct {
-    dfc_routed said;
+    dfc_placed said; /* of a command: number, delivered, signal, tunnel, code */
     uint8_t room[FILE_MAX], made[DFC_SETUP + 8], source_list[48], target_list[48], types[40];
 } output;
 
@@ -31,10 +44,15 @@ static void hex(const char *what, const uint8_t *b, size_t n) {
     printf("\n");
 }
 
-static void show(const input *i, const char *who, const output *o) {
-    printf(" %s: number %llu value %llu kind %llu box %llu address %llu\n", who, (unsigned long long)o->said.number,
+static int on_row(int op) { return op == PLACE || op == COMMAND || op == CLEAR; }
+static int on_port(int op) { return op == PORT_PLACE || op == PORT_COMMAND; }
+
+static void show(const input *i, const char *who, const output *o, const calls *c) {
+    printf(" %s: number %llu value %llu kind %llu box %llu address %llu record %llu use %llu\n", who, (unsigned long long)o->said.number,
            (unsigned long long)o->said.value, (unsigned long long)o->said.kind, (unsigned long long)o->said.box_number,
-           (unsigned long long)o->said.address);
+           (unsigned long long)o->said.address, (unsigned long long)o->said.record_number, (unsigned long long)o->said.use_number);
+    if (on_row(i->op)) hex("row", c->row, row_size + JUNK);
+    if (on_port(i->op)) hex("port", c->port, sizeof c->port);
     hex("made", o->made, sizeof o->made);
     hex("source list", o->source_list, sizeof o->source_list);
     hex("target list", o->target_list, sizeof o->target_list);
@@ -49,32 +67,50 @@ static int differ(const input *i, const output *ours, const output *peers) {
     hex("file", file, file_size);
     hex("string", i->string, i->string_size);
     hex("setup", i->in, i->in_size);
-    show(i, "ours", ours);
-    show(i, "peer", peers);
+    if (i->op >= PLACE) {
+        printf(" record %zu use %u command %u side %u signal %u tunnel %u code %u\n", i->record_number, i->use_number, i->command, i->of_side, i->signal, i->tunnel, i->code);
+        if (on_row(i->op)) hex("row before", before.row, row_size + JUNK);
+        else hex("port before", before.port, sizeof before.port);
+    }
+    show(i, "ours", ours, &ours_calls);
+    show(i, "peer", peers, &peers_calls);
     return 1;
 }
 
-static dfc_routed of(dfc_answer a) { return (dfc_routed){a.number, a.value, 0, 0, 0}; }
+static dfc_placed of(dfc_answer a) { return (dfc_placed){a.number, a.value, 0, 0, 0, 0, 0}; }
+static dfc_placed of_routed(dfc_routed a) { return (dfc_placed){a.number, a.value, a.kind, a.box_number, a.address, 0, 0}; }
+static dfc_placed of_command(dfc_commanded a) { return (dfc_placed){a.number, a.delivered, a.signal, a.tunnel, a.code, 0, 0}; }
 
-#define SIDE(side)                                                                                                                         \
-    static void side##_run(const input *i, output *o) {                                                                                    \
-        switch (i->op) {                                                                                                                   \
-        case CHECK: o->said = of(side##_check(file, file_size)); break;                                                                    \
-        case WRITE: o->said = of(side##_write(file, file_size, o->room, i->room_size)); break;                                             \
-        case ZONE: o->said = of(side##_zone(file, file_size, i->region, i->address, o->types)); break;                                     \
-        case NEW: o->said = of(side##_new(file, file_size, i->kind, i->type, i->address, i->string, i->string_size, i->target, o->made)); break; \
-        case CONTINUED:                                                                                                                    \
-            o->said = of(side##_continued(file, file_size, i->kind, i->type, i->address, i->in, i->in_size, i->source, i->string,          \
-                                          i->string_size, i->target, o->made));                                                            \
-            break;                                                                                                                         \
-        case REVERSED:                                                                                                                     \
-            o->said = of(side##_reversed(file, file_size, i->kind, i->type, i->address, i->in, i->in_size, i->source, i->string,           \
-                                         i->string_size, i->target, o->made));                                                             \
-            break;                                                                                                                         \
-        default:                                                                                                                           \
-            o->said = side##_route(file, file_size, i->in, i->in_size, o->source_list, i->source_size, o->target_list, i->target_size,     \
-                                   o->made);                                                                                               \
-        }                                                                                                                                  \
+#define SIDE(side)                                                                                                                                                 \
+    static void side##_run(const input *i, output *o, calls *c) {                                                                                                  \
+        switch (i->op) {                                                                                                                                           \
+        case CHECK: o->said = of(side##_check(file, file_size)); break;                                                                                            \
+        case WRITE: o->said = of(side##_write(file, file_size, o->room, i->room_size)); break;                                                                     \
+        case ZONE: o->said = of(side##_zone(file, file_size, i->region, i->address, o->types)); break;                                                             \
+        case NEW: o->said = of(side##_new(file, file_size, i->kind, i->type, i->address, i->string, i->string_size, i->target, o->made)); break;                   \
+        case CONTINUED:                                                                                                                                            \
+            o->said = of(side##_continued(file, file_size, i->kind, i->type, i->address, i->in, i->in_size, i->source, i->string,                                  \
+                                          i->string_size, i->target, o->made));                                                                                    \
+            break;                                                                                                                                                 \
+        case REVERSED:                                                                                                                                             \
+            o->said = of(side##_reversed(file, file_size, i->kind, i->type, i->address, i->in, i->in_size, i->source, i->string,                                   \
+                                         i->string_size, i->target, o->made));                                                                                     \
+            break;                                                                                                                                                 \
+        case ROUTE:                                                                                                                                                \
+            o->said = of_routed(side##_route(file, file_size, i->in, i->in_size, o->source_list, i->source_size, o->target_list, i->target_size, o->made));        \
+            break;                                                                                                                                                 \
+        case PLACE:                                                                                                                                                \
+            o->said = side##_place(file, file_size, i->in, i->in_size, c->row, row_size, o->source_list, i->source_size, o->target_list, i->target_size, o->made); \
+            break;                                                                                                                                                 \
+        case PORT_PLACE:                                                                                                                                           \
+            o->said = side##_port_place(file, file_size, i->in, i->in_size, c->port, o->source_list, i->source_size, o->target_list, i->target_size, o->made);     \
+            break;                                                                                                                                                 \
+        case COMMAND:                                                                                                                                              \
+            o->said = of_command(side##_command(c->row, row_size, i->record_number, i->use_number, i->command, i->of_side, i->signal, i->tunnel, i->code));           \
+            break;                                                                                                                                                 \
+        case PORT_COMMAND: o->said = of_command(side##_port_command(c->port, i->command, i->of_side, i->signal, i->tunnel, i->code)); break;                          \
+        default: side##_clear(c->row, row_size), o->said.number = 0;                                                                                               \
+        }                                                                                                                                                          \
     }
 SIDE(dfc)
 SIDE(peer)
@@ -156,10 +192,71 @@ static size_t some_setup(rng *r, uint8_t *b) {
     return n;
 }
 
+/* ---- random calls */
+
+/* a record: cleared, all junk, or with junk in each of its fields that is seldom far out */
+static void some_record(rng *r, uint8_t *b) {
+    if (chance(r, 3)) {
+        memset(b, 0, DFC_CALL);
+        if (chance(r, 4)) b[2] = b[3] = 255;
+        return;
+    }
+    for (int k = 0; k < DFC_CALL; k++) b[k] = (uint8_t)(rnd(r) >> 40);
+    if (chance(r, 8)) return;
+    b[0] = (uint8_t)below(r, 6), b[1] = (uint8_t)below(r, 6);
+    for (int q = 4; q <= 53; q += 49) {
+        b[q] = (uint8_t)(chance(r, 2) ? below(r, 4) : 12 + below(r, 6));
+        for (int k = 1; k < 49; k += 3) b[q + k] = (uint8_t)below(r, 10), b[q + k + 1] = (uint8_t)(chance(r, 2) ? 0 : below(r, 3)), b[q + k + 2] = (uint8_t)below(r, 14);
+        if (chance(r, 4)) b[q + 1] = chance(r, 2) ? DFC_TEARDOWN : DFC_DOWNACK;
+    }
+}
+
+static uint32_t sends; /* of 8 commands on this row, so many are sends */
+
+static void some_row(rng *r) {
+    uint32_t n = chance(r, 24) ? 1023 + below(r, 3) + below(r, 2) : chance(r, 8) ? 0 : 1 + below(r, 4);
+    row_size = n * DFC_CALL + (chance(r, 2) ? 0 : below(r, DFC_CALL));
+    for (size_t k = 0; k < row_size + JUNK; k++) ours_calls.row[k] = (uint8_t)(rnd(r) >> 40);
+    for (size_t k = 0; k < sizeof ours_calls.port; k++) ours_calls.port[k] = (uint8_t)(rnd(r) >> 40);
+    for (size_t k = 0; k < n; k++) some_record(r, ours_calls.row + k * DFC_CALL);
+    some_record(r, ours_calls.port);
+    if (!chance(r, 3)) { /* cleared; and half of the time placed in every other record */
+        memset(ours_calls.row, 0, n * DFC_CALL), memset(ours_calls.port, 0, DFC_CALL);
+        if (chance(r, 2)) {
+            for (size_t k = 0; k < n; k += 2) ours_calls.row[k * DFC_CALL] = 1, ours_calls.row[k * DFC_CALL + 1] = 2;
+            ours_calls.port[0] = 1, ours_calls.port[1] = 2;
+        }
+    }
+    memcpy(peers_calls.row, ours_calls.row, row_size + JUNK);
+    memcpy(peers_calls.port, ours_calls.port, sizeof ours_calls.port);
+    sends = below(r, 3) == 0 ? 6 : 2;
+}
+
+static void some_command(rng *r, input *i) {
+    static const uint8_t others[6] = {DFC_ACCEPT, DFC_BUSY, DFC_UNOBTAINABLE, DFC_SEND_TEARDOWN, DFC_DELIVER, DFC_DELIVER};
+    size_t n = row_size / DFC_CALL;
+    i->record_number = chance(r, 16) ? (chance(r, 2) ? n + below(r, 3) : (size_t)rnd(r)) : n ? below(r, (uint32_t)(n < 4 ? n : chance(r, 2) ? 4 : n)) : 0;
+    const uint8_t *b = i->record_number < n ? ours_calls.row + i->record_number * DFC_CALL : ours_calls.row;
+    i->use_number = (uint16_t)(chance(r, 16) ? below(r, 65536) : (uint32_t)b[2] << 8 | b[3]);
+    i->command = (uint8_t)(chance(r, 16) ? rnd(r) >> 40 : below(r, 8) < sends ? DFC_SEND : others[below(r, 6)]);
+    i->of_side = (uint8_t)(chance(r, 16) ? rnd(r) >> 40 : below(r, 2));
+    if (chance(r, 2)) { /* what the states allow */
+        const uint8_t *s = i->op == PORT_COMMAND ? ours_calls.port : b;
+        if (s[1] == 2 && chance(r, 2)) i->command = (uint8_t)below(r, 3);
+        else if (s[0] == 3 || s[1] == 3) i->of_side = s[0] != 3 || (s[1] == 3 && chance(r, 2)), i->command = chance(r, 8) ? DFC_SEND_TEARDOWN : below(r, 8) < sends ? DFC_SEND : DFC_DELIVER;
+        else i->command = DFC_DELIVER, i->of_side = s[4] == 0;
+    }
+    i->signal = (uint8_t)(chance(r, 16) ? rnd(r) >> 40 : DFC_UNKNOWN + below(r, 6));
+    i->tunnel = (uint8_t)(i->signal < DFC_DTMF && !chance(r, 8) ? 0 : chance(r, 2) ? below(r, 3) : rnd(r) >> 40);
+    i->code = (uint8_t)(chance(r, 2) ? below(r, 14) : rnd(r) >> 40);
+}
+
 static void some_input(rng *r, input *i) {
     memset(i, 0, sizeof *i);
-    uint32_t k = below(r, 16);
-    i->op = k < 1 ? CHECK : k < 2 ? WRITE : k < 4 ? ZONE : k < 7 ? NEW : k < 10 ? CONTINUED : k < 12 ? REVERSED : ROUTE;
+    uint32_t k = below(r, 32);
+    i->op = k < 1 ? CHECK : k < 2 ? WRITE : k < 4 ? ZONE : k < 7 ? NEW : k < 10 ? CONTINUED : k < 12 ? REVERSED : k < 16 ? ROUTE : k < 20 ? PLACE : k < 21 ? PORT_PLACE
+          : k < 28 ? COMMAND : chance(r, 32) ? CLEAR : PORT_COMMAND;
+    if (i->op == COMMAND || i->op == PORT_COMMAND) return some_command(r, i);
     i->region = (uint8_t)(chance(r, 8) ? rnd(r) : below(r, 2));
     i->kind = (uint8_t)(chance(r, 8) ? below(r, 7) : i->op == NEW ? below(r, 3) : 0);
     i->type = (uint8_t)below(r, chance(r, 8) ? 256 : 32);
@@ -201,23 +298,30 @@ int main(int argc, char **argv) {
     uint64_t cases = strtoull(argv[2], NULL, 10);
     rng r = {seed * 0x9E3779B97F4A7C15ull + 1};
     static output ours, peers;
-    for (unsigned left = 0; number < cases; number++, left--) {
+    for (unsigned left = 0, calls_left = 0; number < cases; number++, left--, calls_left--) {
         input i;
         if (left == 0) some_plan(&r), left = 16;
+        if (calls_left == 0) some_row(&r), calls_left = 48;
         some_input(&r, &i);
         /* all that may be lent is junk before; the long room only where it is lent */
         size_t from = i.op == WRITE ? 0 : offsetof(output, made);
         for (size_t k = from; k < sizeof ours; k++) ((uint8_t *)&ours)[k] = (uint8_t)(rnd(&r) >> 40);
         memcpy((uint8_t *)&peers + from, (uint8_t *)&ours + from, sizeof ours - from);
-        ours.said = peers.said = (dfc_routed){99, 99, 99, 99, 99};
-        dfc_run(&i, &ours);
-        peer_run(&i, &peers);
-        if (memcmp(&ours.said, &peers.said, sizeof ours.said) != 0 || memcmp((uint8_t *)&ours + from, (uint8_t *)&peers + from, sizeof ours - from) != 0)
+        ours.said = peers.said = (dfc_placed){99, 99, 99, 99, 99, 99, 99};
+        if (on_row(i.op)) memcpy(before.row, ours_calls.row, row_size + JUNK);
+        if (on_port(i.op)) memcpy(before.port, ours_calls.port, sizeof before.port);
+        dfc_run(&i, &ours, &ours_calls);
+        peer_run(&i, &peers, &peers_calls);
+        if (memcmp(&ours.said, &peers.said, sizeof ours.said) != 0 || memcmp((uint8_t *)&ours + from, (uint8_t *)&peers + from, sizeof ours - from) != 0 ||
+            (on_row(i.op) && memcmp(ours_calls.row, peers_calls.row, row_size + JUNK) != 0) ||
+            (on_port(i.op) && memcmp(ours_calls.port, peers_calls.port, sizeof before.port) != 0) ||
+            (ours.said.number != 0 && on_row(i.op) && memcmp(ours_calls.row, before.row, row_size + JUNK) != 0) ||
+            (ours.said.number != 0 && on_port(i.op) && memcmp(ours_calls.port, before.port, sizeof before.port) != 0))
             return differ(&i, &ours, &peers);
         done[i.op]++;
         if (ours.said.number == 0) {
             accepted[i.op]++;
-            if (i.op >= NEW) memcpy(pool[pooled++ % 16], ours.made, DFC_SETUP);
+            if (i.op >= NEW && i.op <= PORT_PLACE) memcpy(pool[pooled++ % 16], ours.made, DFC_SETUP);
         }
     }
     printf("seed %llu: %llu cases, 0 differences (accepted of done:", (unsigned long long)seed, (unsigned long long)cases);

@@ -1,4 +1,5 @@
-/* The example of dfc.h, whole: example FILE SOURCE STRING places a call from the line SOURCE under the plan of FILE, and says where it goes first. */
+/* The example of dfc.h, whole: example FILE SOURCE STRING places a call from the line SOURCE under the plan of FILE, says where it goes first and in
+ * which record it is, has it accepted, and says what the caller is handed. */
 #include "../include/dfc.h"
 #include <stdio.h>
 #include <stdlib.h>
@@ -7,7 +8,8 @@
 int main(int argc, char **argv) {
     static uint8_t plan[8192];
     static const char *const box[] = {"feature", "line", "trunk", "resource", "error"};
-    uint8_t sent[DFC_SETUP], got[DFC_SETUP], source[32], target[32];
+    static const char *const signal[] = {"upack", "teardown", "downack", "unknown", "avail", "unavail", "none", "dtmf", "special"};
+    uint8_t sent[DFC_SETUP], got[DFC_SETUP], source[32], target[32], row[8 * DFC_CALL];
     FILE *f = argc == 4 ? fopen(argv[1], "rb") : NULL;
     if (f == NULL) return fprintf(stderr, "usage: example FILE SOURCE STRING\n"), 2;
     size_t size = fread(plan, 1, sizeof plan, f);
@@ -16,6 +18,14 @@ int main(int argc, char **argv) {
     if (a.number != 0) return printf("refused %llu\n", (unsigned long long)a.number), 0;
     dfc_routed r = dfc_route(plan, size, sent, DFC_SETUP, source, 32, target, 32, got);
     if (r.number != 0) return printf("refused %llu\n", (unsigned long long)r.number), 0;
-    printf("%s %llu %llu %llu\n", box[r.kind], (unsigned long long)r.box_number, (unsigned long long)r.address, (unsigned long long)r.value);
+    printf("%s %llu %llu %llu; ", box[r.kind], (unsigned long long)r.box_number, (unsigned long long)r.address, (unsigned long long)r.value);
+    dfc_clear(row, sizeof row);
+    dfc_placed c = dfc_place(plan, size, sent, DFC_SETUP, row, sizeof row, source, 32, target, 32, got);
+    if (c.number != 0) return printf("refused %llu\n", (unsigned long long)c.number), 0;
+    size_t call = (size_t)c.record_number;
+    uint16_t use = (uint16_t)c.use_number;
+    dfc_command(row, sizeof row, call, use, DFC_ACCEPT, 0, 0, 0, 0);
+    dfc_commanded d = dfc_command(row, sizeof row, call, use, DFC_DELIVER, DFC_CALLER, 0, 0, 0);
+    printf("call %zu use %u: %s\n", call, use, d.delivered ? signal[d.signal] : "nothing");
     return 0;
 }

@@ -408,8 +408,9 @@ static uint32_t embedded(const uint8_t *s, size_t n) {
     return a;
 }
 
-dfc_routed peer_route(const uint8_t *file, size_t file_size, const uint8_t *sent, size_t sent_size, uint8_t *source_list,
-                      size_t source_size, uint8_t *target_list, size_t target_size, uint8_t received[DFC_SETUP]) {
+/* later: what the caller would refuse after routing's own refusals; 0 for nothing. */
+static dfc_routed route_unless(unsigned later, const uint8_t *file, size_t file_size, const uint8_t *sent, size_t sent_size, uint8_t *source_list,
+                               size_t source_size, uint8_t *target_list, size_t target_size, uint8_t received[DFC_SETUP]) {
     plan p;
     setup s;
     uint8_t zones[2][32], length[2];
@@ -417,6 +418,7 @@ dfc_routed peer_route(const uint8_t *file, size_t file_size, const uint8_t *sent
     if (a.number != 0) return (dfc_routed){a.number, a.value, 0, 0, 0};
     if (!read_setup(sent, sent_size, &s) || !well_formed(&p, &s)) return (dfc_routed){5, 0, 0, 0, 0};
     if (source_size < 32 || target_size < 32) return (dfc_routed){18, 0, 0, 0, 0};
+    if (later != 0) return (dfc_routed){later, 0, 0, 0, 0};
     if (s.target == 0) s.target = embedded(s.string, s.string_len);
     length[0] = zone(&p, DFC_SOURCE, s.source, zones[0]);
     length[1] = zone(&p, DFC_TARGET, s.target, zones[1]);
@@ -460,4 +462,173 @@ dfc_routed peer_route(const uint8_t *file, size_t file_size, const uint8_t *sent
     }
     write_setup(&got, received);
     return to;
+}
+
+dfc_routed peer_route(const uint8_t *file, size_t file_size, const uint8_t *sent, size_t sent_size, uint8_t *source_list,
+                      size_t source_size, uint8_t *target_list, size_t target_size, uint8_t received[DFC_SETUP]) {
+    return route_unless(0, file, file_size, sent, sent_size, source_list, source_size, target_list, target_size, received);
+}
+
+/* ---- calls */
+
+enum { IDLE, REQUESTING, WAITING, LINKED, UNLINKING };
+
+typedef struct {
+    uint8_t signal, tunnel, code;
+} waiting;
+
+typedef struct {
+    uint8_t count;
+    waiting at[16];
+} queue;
+
+/* indexed by DFC_CALLER and DFC_CALLEE: an end's state, and what waits for it */
+typedef struct {
+    uint8_t state[2];
+    uint16_t use;
+    queue to[2];
+} call;
+
+static bool has_tunnel(uint8_t signal) { return signal >= DFC_UNKNOWN; }
+static bool has_code(uint8_t signal) { return signal >= DFC_DTMF; }
+
+static void read_queue(const uint8_t *b, queue *q) {
+    q->count = *b++;
+    for (unsigned i = 0; i < 16; i++, b += 3) {
+        uint8_t signal = b[0] < DFC_SPECIAL ? b[0] : DFC_SPECIAL;
+        q->at[i] = (waiting){signal, has_tunnel(signal) ? b[1] : 0, has_code(signal) ? b[2] : 0};
+    }
+}
+
+static void read_call(const uint8_t *b, call *c) {
+    c->state[0] = b[0] < UNLINKING ? b[0] : UNLINKING;
+    c->state[1] = b[1] < UNLINKING ? b[1] : UNLINKING;
+    c->use = (uint16_t)get2(b + 2);
+    read_queue(b + 4, &c->to[DFC_CALLER]);
+    read_queue(b + 53, &c->to[DFC_CALLEE]);
+}
+
+static void write_queue(const queue *q, uint8_t *b) {
+    *b++ = q->count;
+    for (unsigned i = 0; i < 16; i++) *b++ = q->at[i].signal, *b++ = q->at[i].tunnel, *b++ = q->at[i].code;
+}
+
+static void write_call(const call *c, uint8_t *b) {
+    b[0] = c->state[0], b[1] = c->state[1];
+    put2(b + 2, c->use);
+    write_queue(&c->to[DFC_CALLER], b + 4);
+    write_queue(&c->to[DFC_CALLEE], b + 53);
+}
+
+static bool is_free(const uint8_t *b) { return b[0] == IDLE && b[1] == IDLE; }
+
+static bool ordinary(waiting w) {
+    if (w.signal == DFC_SPECIAL) return true;
+    if (w.signal == DFC_DTMF) return w.tunnel > 0 && w.code < 12;
+    return w.signal >= DFC_UNKNOWN && w.tunnel == 0;
+}
+
+static void push(queue *q, uint8_t signal, uint8_t tunnel, uint8_t code) { q->at[q->count++] = (waiting){signal, tunnel, code}; }
+
+static waiting pop(queue *q) {
+    waiting first = q->at[0];
+    memmove(&q->at[0], &q->at[1], 15 * sizeof q->at[0]);
+    if (!FAULT(11)) q->at[15] = (waiting){0, 0, 0};
+    q->count--;
+    return first;
+}
+
+/* The state of an end that is handed this signal; -1 where it can't take it. */
+static int taken(uint8_t state, waiting w) {
+    if (state == REQUESTING) return w.signal == DFC_UPACK ? LINKED : -1;
+    if (state != LINKED && state != UNLINKING) return -1;
+    if (ordinary(w)) return state;
+    if (w.signal == DFC_TEARDOWN) return state == LINKED || FAULT(13) ? IDLE : UNLINKING;
+    if (w.signal == DFC_DOWNACK && state == UNLINKING) return IDLE;
+    return -1;
+}
+
+/* One command on a record: the refusal, or 0, the record as it is next, and what was handed over. */
+static dfc_commanded step(call *c, uint8_t kind, uint8_t side, uint8_t signal, uint8_t tunnel, uint8_t code) {
+    unsigned me = kind <= DFC_UNOBTAINABLE ? DFC_CALLEE : side == 0 ? DFC_CALLER : DFC_CALLEE;
+    queue *out = &c->to[1 - me], *in = &c->to[me];
+    uint8_t *state = &c->state[me];
+    if (in->count > 16 || out->count > 16) return (dfc_commanded){17, 0, 0, 0, 0};
+    if (kind <= DFC_UNOBTAINABLE) {
+        if (*state != WAITING) return (dfc_commanded){12, 0, 0, 0, 0};
+        if (out->count + (kind == DFC_ACCEPT ? 1 : 3) > 16) return (dfc_commanded){17, 0, 0, 0, 0};
+        push(out, DFC_UPACK, 0, 0);
+        *state = LINKED;
+        if (kind != DFC_ACCEPT) {
+            push(out, kind == DFC_BUSY ? DFC_UNAVAIL : DFC_UNKNOWN, 0, 0);
+            push(out, DFC_TEARDOWN, 0, 0);
+            *state = UNLINKING;
+        }
+    } else if (kind == DFC_SEND) {
+        waiting w = {signal >= DFC_UNKNOWN && signal <= DFC_DTMF ? signal : DFC_SPECIAL, tunnel, 0};
+        if (has_code(w.signal)) w.code = code;
+        if (*state != LINKED) return (dfc_commanded){12, 0, 0, 0, 0};
+        if (!ordinary(w)) return (dfc_commanded){15, 0, 0, 0, 0};
+        if (out->count >= (FAULT(12) ? 15 : 14)) return (dfc_commanded){13, 0, 0, 0, 0};
+        push(out, w.signal, w.tunnel, w.code);
+    } else if (kind == DFC_SEND_TEARDOWN) {
+        if (*state != LINKED) return (dfc_commanded){12, 0, 0, 0, 0};
+        if (out->count == 16) return (dfc_commanded){17, 0, 0, 0, 0};
+        push(out, DFC_TEARDOWN, 0, 0);
+        *state = UNLINKING;
+    } else {
+        if (in->count == 0) return (dfc_commanded){14, 0, 0, 0, 0};
+        bool answered = in->at[0].signal == DFC_TEARDOWN;
+        int next = taken(*state, in->at[0]);
+        if (next < 0 || (answered && out->count == 16)) return (dfc_commanded){17, 0, 0, 0, 0};
+        waiting w = pop(in);
+        if (answered) push(out, DFC_DOWNACK, 0, 0);
+        *state = (uint8_t)next;
+        return (dfc_commanded){0, 1, w.signal, w.tunnel, w.code};
+    }
+    return (dfc_commanded){0, 0, 0, 0, 0};
+}
+
+static dfc_commanded command_at(uint8_t *b, uint8_t kind, uint8_t side, uint8_t signal, uint8_t tunnel, uint8_t code) {
+    call c;
+    read_call(b, &c);
+    dfc_commanded said = step(&c, kind, side, signal, tunnel, code);
+    if (said.number == 0) write_call(&c, b);
+    return said;
+}
+
+void peer_clear(uint8_t *row, size_t row_size) { memset(row, 0, row_size / DFC_CALL * DFC_CALL); }
+
+dfc_commanded peer_command(uint8_t *row, size_t row_size, size_t record_number, uint16_t use_number, uint8_t kind, uint8_t side, uint8_t signal,
+                           uint8_t tunnel, uint8_t code) {
+    size_t n = row_size / DFC_CALL;
+    if (n > 1024) return (dfc_commanded){16, 0, 0, 0, 0};
+    if (record_number >= n) return (dfc_commanded){10, 0, 0, 0, 0};
+    uint8_t *b = row + record_number * DFC_CALL;
+    if (is_free(b) || (get2(b + 2) != use_number && !FAULT(14))) return (dfc_commanded){10, 0, 0, 0, 0};
+    return command_at(b, kind, side, signal, tunnel, code);
+}
+
+dfc_commanded peer_port_command(uint8_t port[DFC_CALL], uint8_t kind, uint8_t side, uint8_t signal, uint8_t tunnel, uint8_t code) {
+    return command_at(port, kind, side, signal, tunnel, code);
+}
+
+dfc_placed peer_place(const uint8_t *file, size_t file_size, const uint8_t *sent, size_t sent_size, uint8_t *row, size_t row_size,
+                      uint8_t *source_list, size_t source_size, uint8_t *target_list, size_t target_size, uint8_t received[DFC_SETUP]) {
+    size_t n = row_size / DFC_CALL, r = 0;
+    while (r < n && !is_free(row + r * DFC_CALL)) r++;
+    unsigned later = n > (FAULT(15) ? 1025 : 1024) ? 16 : r == n ? 11 : 0;
+    dfc_routed q = route_unless(later, file, file_size, sent, sent_size, source_list, source_size, target_list, target_size, received);
+    if (q.number != 0) return (dfc_placed){q.number, q.value, 0, 0, 0, 0, 0};
+    uint8_t *b = row + r * DFC_CALL;
+    uint16_t use = (uint16_t)(get2(b + 2) + 1);
+    memset(b, 0, DFC_CALL);
+    b[0] = REQUESTING, b[1] = WAITING;
+    put2(b + 2, use);
+    return (dfc_placed){0, q.value, q.kind, q.box_number, q.address, r, use};
+}
+
+dfc_placed peer_port_place(const uint8_t *file, size_t file_size, const uint8_t *sent, size_t sent_size, uint8_t port[DFC_CALL],
+                           uint8_t *source_list, size_t source_size, uint8_t *target_list, size_t target_size, uint8_t received[DFC_SETUP]) {
+    return peer_place(file, file_size, sent, sent_size, port, DFC_CALL, source_list, source_size, target_list, target_size, received);
 }

@@ -22,8 +22,15 @@
  *    6  continued by a box it is not routed to        25  room too short for the plan file (place 0)
  *    7  string too long, or with another symbol
  *    8  the new routing address is the box's own
+ * and of calls:
+ *   10  no such call: past the row, free, or of        14  nothing waits there
+ *       another use                                   15  not an ordinary signal
+ *   11  no free record                                16  a row of more than 1,024 records
+ *   12  the end's state forbids it                    17  a broken record: a count above 16, a signal that the
+ *   13  14 signals or more wait there already             end can't take, or no room for the signals sent
  * For 20 to 25 value is the place: in a plan file the first byte of the field, counted from 0. For the others it is 0.
- * Of several refusals the plan file's comes first, then the lowest number; routing has 5 before 18.
+ * Of several refusals the plan file's comes first, then the lowest number; routing has 5 before 18, placing 5, 18, 16, 11; a command
+ * has 16, 10, then 17 for a count, 12, 15, 13, 14, and 17 for the rest.
  *
  * EXAMPLE (host/example.c is this, whole):
  *
@@ -32,6 +39,14 @@
  *    if (a.number != 0) return refused(a.number);
  *    dfc_routed r = dfc_route(plan, plan_size, sent, DFC_SETUP, source, 32, target, 32, got);
  *    if (r.number == 0) printf("type %llu at %llu, %llu left\n", r.box_number, r.address, r.value);
+ *
+ *    uint8_t row[8 * DFC_CALL];
+ *    dfc_clear(row, sizeof row);
+ *    dfc_placed c = dfc_place(plan, plan_size, sent, DFC_SETUP, row, sizeof row, source, 32, target, 32, got);
+ *    if (c.number != 0) return refused(c.number);
+ *    dfc_command(row, sizeof row, c.record_number, c.use_number, DFC_ACCEPT, 0, 0, 0, 0);
+ *    dfc_commanded d = dfc_command(row, sizeof row, c.record_number, c.use_number, DFC_DELIVER, DFC_CALLER, 0, 0, 0);
+ *    if (d.delivered) printf("the caller is handed signal %llu\n", d.signal);
  */
 #ifndef DFC_H
 #define DFC_H
@@ -103,6 +118,67 @@ dfc_answer dfc_reversed(const uint8_t *file, size_t file_size, uint8_t kind, uin
  * source's zone and the target's; their bytes past these stay. */
 dfc_routed dfc_route(const uint8_t *file, size_t file_size, const uint8_t *sent, size_t sent_size, uint8_t *source_list,
                      size_t source_size, uint8_t *target_list, size_t target_size, uint8_t received[DFC_SETUP]);
+
+/* ---- calls */
+
+/* A call record is DFC_CALL bytes:
+ *    offset
+ *         0  the caller's state: 0 idle, 1 requesting, 2 waiting, 3 linked, 4 unlinking
+ *         1  the callee's state
+ *         2  the use number, high byte first
+ *         4  how many signals wait for the caller (0 to 16), then 16 places of three bytes: signal, tunnel, code; the oldest first
+ *        53  the same for the callee
+ * A record is free when both states are 0. A row is a run of records one after the other: size / DFC_CALL of them, counted from 0, at most 1,024;
+ * bytes past the last whole record are never looked at or written. A port is one record. The memory is the caller's, and so is what stands in it:
+ * any bytes are a record. A state above 4 stands for 4, a signal above DFC_SPECIAL for DFC_SPECIAL, and a tunnel or code that a signal has no use
+ * for does not count. What is accepted writes the one record that it is about, all its bytes, in the form above (0 where a signal has no tunnel or
+ * code, and 0 0 0 in a place that was emptied); every other byte stays. */
+#define DFC_CALL 102
+
+/* Signals. The first three carry nothing; DFC_UNKNOWN to DFC_NONE are ordinary in tunnel 0; DFC_DTMF in a tunnel from 1 on with a code
+ * 0 to 9 for a digit, 10 for *, 11 for #; DFC_SPECIAL in any tunnel with any code. */
+enum { DFC_UPACK = 0, DFC_TEARDOWN = 1, DFC_DOWNACK = 2, DFC_UNKNOWN = 3, DFC_AVAIL = 4, DFC_UNAVAIL = 5, DFC_NONE = 6, DFC_DTMF = 7, DFC_SPECIAL = 8 };
+/* Sides: any number but 0 is the callee. */
+enum { DFC_CALLER = 0, DFC_CALLEE = 1 };
+/* Commands. The callee answers once: accept, busy or unobtainable; these name no side. Send is an ordinary signal from a side, by signal (any number but
+ * DFC_UNKNOWN to DFC_DTMF stands for DFC_SPECIAL), tunnel and code; teardown is from a side; deliver, and any number above, hands the oldest signal
+ * that waits for a side over to it. Arguments that a command has no use for do not count. */
+enum { DFC_ACCEPT = 0, DFC_BUSY = 1, DFC_UNOBTAINABLE = 2, DFC_SEND = 3, DFC_SEND_TEARDOWN = 4, DFC_DELIVER = 5 };
+
+typedef struct {
+    uint64_t number;    /* 0, or the refusal; beside a refusal the rest is 0 */
+    uint64_t delivered; /* 1 where a signal was handed over: */
+    uint64_t signal;    /* DFC_UPACK .. DFC_SPECIAL */
+    uint64_t tunnel;    /* 0 for a signal that has none */
+    uint64_t code;      /* of DFC_DTMF and DFC_SPECIAL; else 0 */
+} dfc_commanded;
+
+typedef struct {
+    uint64_t number;     /* this and the next four as in dfc_routed */
+    uint64_t value;
+    uint64_t kind;
+    uint64_t box_number;
+    uint64_t address;
+    uint64_t record_number; /* of the record that took the call, 0 beside a refusal */
+    uint64_t use_number;    /* how often calls were placed in that record, modulo 65,536: commands name both */
+} dfc_placed;
+
+/* Every record of a row cleared: ends idle, queues empty, use number 0. With size DFC_CALL it clears a port. */
+void dfc_clear(uint8_t *row, size_t row_size);
+
+/* A call placed: the setup is routed as by dfc_route, and the lowest free record of the row takes the call, the caller requesting, the callee waiting,
+ * the queues empty and the use number one higher (65,535 is followed by 0). */
+dfc_placed dfc_place(const uint8_t *file, size_t file_size, const uint8_t *sent, size_t sent_size, uint8_t *row, size_t row_size,
+                     uint8_t *source_list, size_t source_size, uint8_t *target_list, size_t target_size, uint8_t received[DFC_SETUP]);
+
+/* A command for the call in the record with this number and this use number. */
+dfc_commanded dfc_command(uint8_t *row, size_t row_size, size_t record_number, uint16_t use_number, uint8_t kind, uint8_t side, uint8_t signal,
+                          uint8_t tunnel, uint8_t code);
+
+/* The same for a port: placing as in a row of one, and commands that name no record: neither 16 nor 10. */
+dfc_placed dfc_port_place(const uint8_t *file, size_t file_size, const uint8_t *sent, size_t sent_size, uint8_t port[DFC_CALL],
+                          uint8_t *source_list, size_t source_size, uint8_t *target_list, size_t target_size, uint8_t received[DFC_SETUP]);
+dfc_commanded dfc_port_command(uint8_t port[DFC_CALL], uint8_t kind, uint8_t side, uint8_t signal, uint8_t tunnel, uint8_t code);
 
 #ifdef __cplusplus
 }

@@ -1,15 +1,19 @@
 -- Places of three bytes written and read one after the other. Assumes nothing.
 use mathlib.Core.Path.{_≡_, refl, ap, _∙_}
+use mathlib.Core.Bool.{Bool, true, false, cond, _&&_}
 use mathlib.Core.List.{List, [], _∷_, _++_, append-nil}
+use Rattle.call.specs.declared.Call.{Call}
 use Prim.Native.Nat.{ℕ, zero, suc, _+_, _*_, _-_, _≤_, _<_}
 use native.Mathlib.Nat.{le-of-suc-le-suc, not-suc-le-zero}
 use native.Mathlib.Numerals.{add-one}
 use native.Mathlib.Omega.{arith}
-use lib.ListN.{length, set, drop, replicate, length-append, drop-of-length-le}
-use lib.Seq.{sets, drop-cons, sets-eq}
+use lib.ListN.{length, getD, set, drop, replicate, length-append, drop-of-length-le}
+use lib.Seq.{sets, drop-cons, sets-eq, getD-drop}
+use lib.Dec.{eqb}
 use Rattle.call.specs.declared.Slot.{Slot}
-use Rattle.call.specs.Protocol.{slot, blank, cleared}
-use Rattle.callbytes.specs.Codec.{slotBytes, slotsBytes, slotAt, slotsFrom, callAt}
+use Rattle.call.specs.declared.State.the-variants.{Idle, Requesting, Waiting, Linked, Unlinking}
+use Rattle.call.specs.Protocol.{slot, blank, cleared, isIdle, isFree}
+use Rattle.callbytes.specs.Codec.{slotBytes, slotsBytes, stateSaid, slotAt, slotsFrom, callIn, callAt, putAt}
 use Rattle.planwrite.proofs.Puts.{sets-append, puts-then}
 use Rattle.zone.proofs.Held.{stores-pad}
 
@@ -101,3 +105,29 @@ unfolding callAt
 past-end b at h =
     let none : length b - at ≡ 0 = omega arith in
     rw none refl
+
+pub put-past-end : (b : List ℕ) (at : ℕ) (c : Call) → length b < at → putAt b at c ≡ b
+unfolding putAt
+put-past-end b at c h =
+    let none : length b - at ≡ 0 = omega arith in
+    rw none refl
+
+-- ---- free or not, by two bytes
+
+idle-by : (a b c d : Bool) → isIdle (cond a Idle (cond b Requesting (cond c Waiting (cond d Linked Unlinking)))) ≡ a
+idle-by true b c d = refl
+idle-by false true c d = refl
+idle-by false false true d = refl
+idle-by false false false true = refl
+idle-by false false false false = refl
+
+idle-said : (n : ℕ) → isIdle (stateSaid n) ≡ eqb n 0
+idle-said n = idle-by (eqb n 0) (eqb n 1) (eqb n 2) (eqb n 3)
+
+pub free-by-states : (b : List ℕ) (at : ℕ) → isFree (callIn (drop at b)) ≡ (eqb (getD b at 0) 0 && eqb (getD b (at + 1) 0) 0)
+unfolding callIn
+free-by-states b at =
+    let here : at + 0 ≡ at = omega arith in
+    let first : getD (drop at b) 0 0 ≡ getD b at 0 = getD-drop at b 0 0 ∙ rw here in
+    let second : getD (drop at b) 1 0 ≡ getD b (at + 1) 0 = getD-drop at b 1 0 in
+    rw (first, second, idle-said (getD b at 0), idle-said (getD b (at + 1) 0)) refl

@@ -1,10 +1,12 @@
 -- A call record as 102 bytes: the caller's state, the callee's, the use number (high byte first), then what waits for the caller and what waits for the callee, each a count and 16 places of
 -- three bytes: kind, tunnel, code. Any 102 bytes are a record: a number past the last case stands for the last case, and a byte that a kind has no use for does not count. Assumes nothing.
-use Prim.Native.Nat.{ℕ, zero, suc, _+_, _-_}
+use Prim.Native.Nat.{ℕ, zero, suc, _+_, _-_, _<_}
+use mathlib.Core.Path.{_≡_}
 use mathlib.Core.Bool.{cond}
 use mathlib.Core.List.{List, [], _∷_, _++_}
 use lib.Dec.{eqb, ltb}
 use lib.ListN.{length, getD, take, drop}
+use lib.Seq.{sets}
 use Rattle.planbytes.specs.Numbers.{high, number}
 use Rattle.ends.specs.declared.State.{State}
 use Rattle.ends.specs.declared.State.the-variants.{Idle, Requesting, Waiting, Linked, Unlinking}
@@ -108,3 +110,13 @@ callIn b = record {
 -- the record of the 102 bytes from a place on; the cleared record where there are fewer
 unfoldable pub callAt : List ℕ → ℕ → Call
 callAt b at = cond (ltb (length b - at) 102) cleared (callIn (drop at b))
+
+-- the record's bytes from a place on; nothing is stored where there is no room for 102
+unfoldable pub putAt : List ℕ → ℕ → Call → List ℕ
+putAt b at c = cond (ltb (length b - at) 102) b (sets b at (callBytes c))
+
+-- ---- a record that a program holds: its use number fits in two bytes, and its queues have 16 places each
+pub record Fits (c : Call) : Type 0 where
+  pub use-fits : c .«use_number» < 65536
+  pub waiting-places : length (c .«to_caller» .slots) ≡ 16
+  pub coming-places : length (c .«to_callee» .slots) ≡ 16

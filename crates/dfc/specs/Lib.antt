@@ -1,3 +1,4 @@
 pub mod Said
 pub mod Files
 pub mod Routes
+pub mod Calls

@@ -373,3 +373,224 @@ pub extern "C" fn dfc_route(
         Verdict::Refused(r) => not_routed(r),
     }
 }
+
+// ---- calls
+ghost use mathlib.Core.List.{[], _∷_};
+ghost use Rattle.call.specs.Protocol.{step};
+ghost use Rattle.call.specs.Row.{turn, command as by-command};
+ghost use Rattle.callbytes.specs.Codec.{callIn};
+ghost use Rattle.rowbytes.specs.Rows.{rowIn, clearedIn, after, portCommanded};
+ghost use Rattle.dfc.specs.Calls.{sideOf, commandOf, commandedSaid, replySaid, placedAs, placed, rowPlaced, portPlaced, sourcePlaced, targetPlaced, roomPlaced};
+use call::Command;
+use call::Side;
+
+// Number 0, and 1 and the signal where one was handed over; or the refusal's number, and zeros.
+#[repr(C)]
+pub struct Commanded {
+    pub number: u64,
+    pub delivered: u64,
+    pub signal: u64,
+    pub tunnel: u64,
+    pub code: u64,
+}
+
+// What routing says, and where the call was placed; beside a refusal zeros.
+#[repr(C)]
+pub struct Placed {
+    pub number: u64,
+    pub value: u64,
+    pub kind: u64,
+    pub box_number: u64,
+    pub address: u64,
+    pub record_number: u64,
+    pub use_number: u64,
+}
+
+fn side_of(n: u8) -> Side
+    ensures { λ r. ⌜ r ≡ sideOf n ⌝ }
+{
+    if n == 0 { Side::Caller } else { Side::Callee }
+}
+
+fn command_of(kind: u8, side: u8, signal: u8, tunnel: u8, code: u8) -> Command
+    ensures { λ r. ⌜ r ≡ commandOf kind side signal tunnel code ⌝ }
+{
+    if kind == 0 {
+        return Command::Accept;
+    }
+    if kind == 1 {
+        return Command::Busy;
+    }
+    if kind == 2 {
+        return Command::Unobtainable;
+    }
+    if kind == 3 {
+        return Command::Send(side_of(side), tunnel, callbytes::status_said(signal, code));
+    }
+    if kind == 4 {
+        return Command::Teardown(side_of(side));
+    }
+    Command::Deliver(side_of(side))
+}
+
+fn commanded_said(a: call::Answer) -> Commanded
+    ensures { λ r. ⌜ r ≡ commandedSaid a ⌝ }
+{
+    match a {
+        call::Answer::Accepted => Commanded {
+            number: 0,
+            delivered: 0,
+            signal: 0,
+            tunnel: 0,
+            code: 0,
+        },
+        call::Answer::Delivered(x) => Commanded {
+            number: 0,
+            delivered: 1,
+            signal: wide_8(callbytes::signal_number(x)),
+            tunnel: wide_8(callbytes::signal_tunnel(x)),
+            code: wide_8(callbytes::signal_code(x)),
+        },
+        call::Answer::Refused(r) => Commanded {
+            number: wide_8(r.number()),
+            delivered: 0,
+            signal: 0,
+            tunnel: 0,
+            code: 0,
+        },
+    }
+}
+
+// Every record of a row cleared; the bytes past the last whole record stay.
+#[no_mangle]
+pub extern "C" fn dfc_clear(row: &mut [u8])
+    ensures { λ _. ⌜ now (row .exit) ≡ clearedIn (now (row .entry)) ⌝ }
+{
+    rowbytes::clear(row);
+}
+
+// A command for a record of a row, by its number and the use number that placing gave.
+#[no_mangle]
+pub extern "C" fn dfc_command(
+    row: &mut [u8],
+    record_number: usize,
+    use_number: u16,
+    kind: u8,
+    side: u8,
+    signal: u8,
+    tunnel: u8,
+    code: u8,
+) -> Commanded
+    ensures { λ r. ⌜ (r ≡ replySaid (turn (rowIn (now (row .entry))) (by-command «record_number» «use_number» (commandOf kind side signal tunnel code)) .reply))
+        × (now (row .exit) ≡ after (now (row .entry)) «record_number» (turn (rowIn (now (row .entry))) (by-command «record_number» «use_number» (commandOf kind side signal tunnel code)))) ⌝ }
+{
+    let k = command_of(kind, side, signal, tunnel, code);
+    let a = rowbytes::command(row, record_number, use_number, k);
+    commanded_said(a)
+}
+
+// A command for a port's record.
+#[no_mangle]
+pub extern "C" fn dfc_port_command(
+    port: &mut [u8; 102],
+    kind: u8,
+    side: u8,
+    signal: u8,
+    tunnel: u8,
+    code: u8,
+) -> Commanded
+    ensures { λ r. ⌜ (r ≡ commandedSaid (step (callIn (now (port .entry))) (commandOf kind side signal tunnel code) .answer))
+        × (now (port .exit) ≡ portCommanded (now (port .entry)) (commandOf kind side signal tunnel code)) ⌝ }
+{
+    let k = command_of(kind, side, signal, tunnel, code);
+    let a = rowbytes::port_command(port, k);
+    commanded_said(a)
+}
+
+fn wide_size(n: usize) -> u64
+    ensures { λ r. ⌜ r ≡ n ⌝ }
+{
+    n as u64
+}
+
+fn placed_as(q: Routed, record_number: usize, use_number: u16) -> Placed
+    ensures { λ r. ⌜ r ≡ placedAs q «record_number» «use_number» ⌝ }
+{
+    Placed {
+        number: q.number,
+        value: q.value,
+        kind: q.kind,
+        box_number: q.box_number,
+        address: q.address,
+        record_number: wide_size(record_number),
+        use_number: wide_16(use_number),
+    }
+}
+
+// A call placed in the lowest free record of a row: what routing gives, record and use number; the setup received in the room, and the two zones in the two lists.
+#[no_mangle]
+pub extern "C" fn dfc_place(
+    file: &[u8],
+    setup: &[u8],
+    row: &mut [u8],
+    source_list: &mut [u8],
+    target_list: &mut [u8],
+    room: &mut [u8; 110],
+) -> Placed
+    ensures { λ r. ⌜ (r ≡ placed (now (file .entry)) (now (setup .entry)) (rowIn (now (row .entry))) (length (now («source_list» .entry))) (length (now («target_list» .entry))))
+        × (now (row .exit) ≡ rowPlaced (now (file .entry)) (now (setup .entry)) (now (row .entry)) (length (now («source_list» .entry))) (length (now («target_list» .entry))))
+        × (now («source_list» .exit) ≡ sourcePlaced (now (file .entry)) (now (setup .entry)) (rowIn (now (row .entry))) (length (now («source_list» .entry))) (length (now («target_list» .entry))) (now («source_list» .entry)))
+        × (now («target_list» .exit) ≡ targetPlaced (now (file .entry)) (now (setup .entry)) (rowIn (now (row .entry))) (length (now («source_list» .entry))) (length (now («target_list» .entry))) (now («target_list» .entry)))
+        × (now (room .exit) ≡ roomPlaced (now (file .entry)) (now (setup .entry)) (rowIn (now (row .entry))) (length (now («source_list» .entry))) (length (now («target_list» .entry))) (now (room .entry))) ⌝ }
+{
+    let reading = planread::read(file);
+    let verdict = reading.answer;
+    let plan = reading.plan;
+    match verdict {
+        Verdict::Sound => {
+            let out = setupbytes::setup_in(setup);
+            let z = rowbytes::place(row, plan, out, source_list, target_list);
+            let a = z.routed;
+            let q = received(a, room);
+            placed_as(q, z.record_number, z.use_number)
+        }
+        Verdict::Refused(r) => {
+            let q = not_routed(r);
+            placed_as(q, 0, 0)
+        }
+    }
+}
+
+// A call placed in a port's record, as in a row of one.
+#[no_mangle]
+pub extern "C" fn dfc_port_place(
+    file: &[u8],
+    setup: &[u8],
+    port: &mut [u8; 102],
+    source_list: &mut [u8],
+    target_list: &mut [u8],
+    room: &mut [u8; 110],
+) -> Placed
+    ensures { λ r. ⌜ (r ≡ placed (now (file .entry)) (now (setup .entry)) (callIn (now (port .entry)) ∷ []) (length (now («source_list» .entry))) (length (now («target_list» .entry))))
+        × (now (port .exit) ≡ portPlaced (now (file .entry)) (now (setup .entry)) (now (port .entry)) (length (now («source_list» .entry))) (length (now («target_list» .entry))))
+        × (now («source_list» .exit) ≡ sourcePlaced (now (file .entry)) (now (setup .entry)) (callIn (now (port .entry)) ∷ []) (length (now («source_list» .entry))) (length (now («target_list» .entry))) (now («source_list» .entry)))
+        × (now («target_list» .exit) ≡ targetPlaced (now (file .entry)) (now (setup .entry)) (callIn (now (port .entry)) ∷ []) (length (now («source_list» .entry))) (length (now («target_list» .entry))) (now («target_list» .entry)))
+        × (now (room .exit) ≡ roomPlaced (now (file .entry)) (now (setup .entry)) (callIn (now (port .entry)) ∷ []) (length (now («source_list» .entry))) (length (now («target_list» .entry))) (now (room .entry))) ⌝ }
+{
+    let reading = planread::read(file);
+    let verdict = reading.answer;
+    let plan = reading.plan;
+    match verdict {
+        Verdict::Sound => {
+            let out = setupbytes::setup_in(setup);
+            let z = rowbytes::port_place(port, plan, out, source_list, target_list);
+            let a = z.routed;
+            let q = received(a, room);
+            placed_as(q, z.record_number, z.use_number)
+        }
+        Verdict::Refused(r) => {
+            let q = not_routed(r);
+            placed_as(q, 0, 0)
+        }
+    }
+}

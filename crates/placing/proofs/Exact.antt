@@ -27,6 +27,11 @@ use Rattle.placing.proofs.place_port as place-port
 use Rattle.placing.proofs.place as place
 use Rattle.placing.proofs.place_in as place-in
 use Rattle.placing.proofs.place_port_in as place-port-in
+use Rattle.placing.proofs.answer_for.Reads as answer-for
+use Rattle.placing.proofs.port_later.Reads as port-later
+use Rattle.placing.proofs.later_for.Reads as later-for
+use Rattle.routing.specs.declared.Later.{Later}
+use Rattle.call.specs.declared.Call.{Call}
 
 -- what routing gave is answered whatever the row says
 routed-is : (x : Reply) (a : Answer) → answered x a .routed ≡ a
@@ -66,3 +71,12 @@ module _ {M : Type 1} (𝓤 : URA M) (H : Heap 𝓤) (A : Atoms 𝓤) (mem : Mem
   pub place-port-in-numbered : (κs : Lfts (place-port-in.signature .lifetimes)) (a : Args place-port-in.signature κs) (g : place-port-in.clauses 𝓤 H A mem run κs a .ghost) (r : Res place-port-in.signature κs) (e : AtExit place-port-in.ended κs)
       → ent 𝓤 (place-port-in.clauses 𝓤 H A mem run κs a .ensures g r e) (fact 𝓤 ((numberOfOutcome (r .placed .routed .outcome) ≡ numberGiven (a .1 .0) (a .1 .1 .0) (laterFor (a .0 ∷ [])) (length (a .1 .1 .1 .0 .now)) (length (a .1 .1 .1 .1 .0 .now))) × (placeOfOutcome (r .placed .routed .outcome) ≡ placeGiven (a .1 .0) (a .1 .1 .0) (laterFor (a .0 ∷ [])) (length (a .1 .1 .1 .0 .now)) (length (a .1 .1 .1 .1 .0 .now)))))
   place-port-in-numbered κs a g r e = fact-mono 𝓤 _ ((numberOfOutcome (r .placed .routed .outcome) ≡ numberGiven (a .1 .0) (a .1 .1 .0) (laterFor (a .0 ∷ [])) (length (a .1 .1 .1 .0 .now)) (length (a .1 .1 .1 .1 .0 .now))) × (placeOfOutcome (r .placed .routed .outcome) ≡ placeGiven (a .1 .0) (a .1 .1 .0) (laterFor (a .0 ∷ [])) (length (a .1 .1 .1 .0 .now)) (length (a .1 .1 .1 .1 .0 .now)))) (λ p. said (a .1 .0) (a .1 .1 .0) (laterFor (a .0 ∷ [])) (length (a .1 .1 .1 .0 .now)) (length (a .1 .1 .1 .1 .0 .now)) (r .placed .routed) (ap (λ (z : PortPlaced). z .placed .routed) (p .0) ∙ routed-is (turned (a .0 ∷ []) (outcomeIn (a .0 ∷ []) (a .1 .0) (a .1 .1 .0) (length (a .1 .1 .1 .0 .now)) (length (a .1 .1 .1 .1 .0 .now))) .reply) (answerIn (a .0 ∷ []) (a .1 .0) (a .1 .1 .0) (length (a .1 .1 .1 .0 .now)) (length (a .1 .1 .1 .1 .0 .now)))))
+
+pub later-for-exact : (n i : ℕ) (r s : Later) → later-for.Post tt (n, (i, tt)) r (n, (i, tt)) → later-for.Post tt (n, (i, tt)) s (n, (i, tt)) → r ≡ s
+later-for-exact n i r s p q = p ∙ sym q
+
+pub port-later-exact : (c : Call) (r s : Later) → port-later.Post tt (c, tt) r (c, tt) → port-later.Post tt (c, tt) s (c, tt) → r ≡ s
+port-later-exact c r s p q = p ∙ sym q
+
+pub answer-for-exact : (a : Answer) (i : ℕ) (c : Call) (r s : Placed) → answer-for.Post tt (a, (i, (c, tt))) r (a, (i, (c, tt))) → answer-for.Post tt (a, (i, (c, tt))) s (a, (i, (c, tt))) → r ≡ s
+answer-for-exact a i c r s p q = p ∙ sym q

@@ -83,7 +83,7 @@ module _ (c : Call) (p : Plan) (s : Setup) (n m : ℕ) where
   abbrev b : Answer
   b = answerIn one p s n m
 
-  port-places : laterFor one ≡ Nothing → turn one place ≡ placeAt one 0
+  pub port-places : laterFor one ≡ Nothing → turn one place ≡ placeAt one 0
   port-places free = places one free ∙ ap (placeAt one) (one-free (isFree c) free)
 
   pub port-placed : answerFor b 0 c ≡ placedIn one p s n m

@@ -1,4 +1,4 @@
--- What the code makes of one record once routing has answered. Only contracts of private functions go by this. Assumes nothing.
+-- What the code makes of one record once routing has answered: what contracts of functions of values go by. Assumes nothing.
 use Prim.Native.Nat.{ℕ}
 use Rattle.routing.specs.declared.Outcome.{Outcome}
 use Rattle.routing.specs.declared.Outcome.the-variants.{Routed, Refused}

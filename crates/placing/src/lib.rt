@@ -24,7 +24,7 @@ pub struct Placed {
 }
 
 // What a row of this length, with this lowest free record, refuses by itself: 16, 11.
-fn later_for(length: usize, free: usize) -> Later
+pub fn later_for(length: usize, free: usize) -> Later
     ensures { λ r. ⌜ r ≡ laterBy length free ⌝ }
 {
     if 1024 < length {
@@ -38,7 +38,7 @@ fn later_for(length: usize, free: usize) -> Later
 }
 
 // The same for a port, which is a row of one.
-fn port_later(c: Call) -> Later
+pub fn port_later(c: Call) -> Later
     ensures { λ r. ⌜ r ≡ laterFor (c ∷ []) ⌝ }
 {
     let free = c.is_free();
@@ -50,7 +50,7 @@ fn port_later(c: Call) -> Later
 }
 
 // What placing answers for the record r, which holds c, by what routing gave.
-fn answer_for(a: routing::Answer, r: usize, c: Call) -> Placed
+pub fn answer_for(a: routing::Answer, r: usize, c: Call) -> Placed
     ensures { λ z. ⌜ z ≡ parts.answerFor a r c ⌝ }
 {
     let o = a.outcome;

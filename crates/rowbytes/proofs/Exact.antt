@@ -1,0 +1,59 @@
+-- Any two results that a contract of this crate allows are equal, and so are any two contents of what was lent: read off the contracts themselves, as the functions in
+-- src/ state them. Assumes nothing.
+use mathlib.Core.Path.{_≡_, sym, ap, _∙_}
+use mathlib.Core.List.{List}
+use Prim.Native.Nat.{ℕ}
+use contract.Lifetimes.{Lfts}
+use denote.Ref.{RefT}
+use denote.Triple.Clauses.{AtExit}
+use borrow.Fn.Kinds.{endedOf}
+use Rattle.plan.specs.declared.Plan.{Plan}
+use Rattle.setup.specs.declared.Setup.{Setup}
+use Rattle.call.specs.declared.Answer.{Answer}
+use Rattle.call.specs.declared.Answer.the-variants.{Accepted}
+use Rattle.call.specs.declared.Command.{Command}
+use Rattle.call.specs.Row.{Reply, placed-at, says}
+use Rattle.placing.specs.declared.Placed.{Placed}
+use Rattle.rowbytes.proofs.lowest_free.Reads as lowest-free
+use Rattle.rowbytes.proofs.lowest_free.Kinds as lowest-free-kinds
+use Rattle.rowbytes.proofs.clear.Reads as clear
+use Rattle.rowbytes.proofs.clear.Kinds as clear-kinds
+use Rattle.rowbytes.proofs.command.Reads as command
+use Rattle.rowbytes.proofs.command.Kinds as command-kinds
+use Rattle.rowbytes.proofs.place.Reads as place
+use Rattle.rowbytes.proofs.place.Kinds as place-kinds
+use Rattle.rowbytes.proofs.port_command.Reads as port-command
+use Rattle.rowbytes.proofs.port_command.Kinds as port-command-kinds
+use Rattle.rowbytes.proofs.port_place.Reads as port-place
+use Rattle.rowbytes.proofs.port_place.Kinds as port-place-kinds
+
+pub lowest-free-exact : (κs : Lfts 1) (row : RefT (List ℕ)) (end end′ : AtExit (endedOf 1 lowest-free-kinds.ps lowest-free-kinds.r) κs) (r s : ℕ)
+    → lowest-free.Post κs (row, tt) r end → lowest-free.Post κs (row, tt) s end′ → r ≡ s
+lowest-free-exact κs row end end′ r s p q = p ∙ sym q
+
+pub clear-exact : (κs : Lfts 1) (row : RefT (List ℕ)) (end end′ : AtExit (endedOf 1 clear-kinds.ps clear-kinds.r) κs) (r s : Unit)
+    → clear.Post κs (row, tt) r end → clear.Post κs (row, tt) s end′ → end .0 .now ≡ end′ .0 .now
+clear-exact κs row end end′ r s p q = p .0 ∙ sym (q .0)
+
+answerOf : Reply → Answer
+answerOf (says a) = a
+answerOf (placed-at r n) = Accepted
+
+pub command-exact : (κs : Lfts 1) (row : RefT (List ℕ)) (i u : ℕ) (k : Command) (end end′ : AtExit (endedOf 1 command-kinds.ps command-kinds.r) κs) (r s : Answer)
+    → command.Post κs (row, (i, (u, (k, tt)))) r end → command.Post κs (row, (i, (u, (k, tt)))) s end′ → (r ≡ s) × (end .0 .now ≡ end′ .0 .now)
+unfolding answerOf
+command-exact κs row i u k end end′ r s p q = (ap answerOf (p .0 ∙ sym (q .0)), p .1 ∙ sym (q .1))
+
+pub place-exact : (κs : Lfts 3) (row : RefT (List ℕ)) (plan : Plan) (x : Setup) (sources targets : RefT (List ℕ)) (end end′ : AtExit (endedOf 3 place-kinds.ps place-kinds.r) κs) (r s : Placed)
+    → place.Post κs (row, (plan, (x, (sources, (targets, tt))))) r end → place.Post κs (row, (plan, (x, (sources, (targets, tt))))) s end′
+    → (r ≡ s) × (end .0 .now ≡ end′ .0 .now) × (end .1 .1 .1 .0 .now ≡ end′ .1 .1 .1 .0 .now) × (end .1 .1 .1 .1 .0 .now ≡ end′ .1 .1 .1 .1 .0 .now)
+place-exact κs row plan x sources targets end end′ r s p q = (p .0 ∙ sym (q .0), p .1 ∙ sym (q .1), p .3 ∙ sym (q .3), p .4 ∙ sym (q .4))
+
+pub port-command-exact : (κs : Lfts 1) (port : RefT (List ℕ)) (k : Command) (end end′ : AtExit (endedOf 1 port-command-kinds.ps port-command-kinds.r) κs) (r s : Answer)
+    → port-command.Post κs (port, (k, tt)) r end → port-command.Post κs (port, (k, tt)) s end′ → (r ≡ s) × (end .0 .now ≡ end′ .0 .now)
+port-command-exact κs port k end end′ r s p q = (p .0 ∙ sym (q .0), p .1 ∙ sym (q .1))
+
+pub port-place-exact : (κs : Lfts 3) (port : RefT (List ℕ)) (plan : Plan) (x : Setup) (sources targets : RefT (List ℕ)) (end end′ : AtExit (endedOf 3 port-place-kinds.ps port-place-kinds.r) κs) (r s : Placed)
+    → port-place.Post κs (port, (plan, (x, (sources, (targets, tt))))) r end → port-place.Post κs (port, (plan, (x, (sources, (targets, tt))))) s end′
+    → (r ≡ s) × (end .0 .now ≡ end′ .0 .now) × (end .1 .1 .1 .0 .now ≡ end′ .1 .1 .1 .0 .now) × (end .1 .1 .1 .1 .0 .now ≡ end′ .1 .1 .1 .1 .0 .now)
+port-place-exact κs port plan x sources targets end end′ r s p q = (p .0 ∙ sym (q .0), p .1 ∙ sym (q .1), p .3 ∙ sym (q .3), p .4 ∙ sym (q .4))

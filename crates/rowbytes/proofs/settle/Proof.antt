@@ -1,0 +1,49 @@
+-- `rowbytes::settle` meets its contract. Assumes nothing.
+use borrow.Author.Needs.{needs}
+use Rattle.rowbytes.proofs.settle.Statement.{statement}
+use Rattle.rowbytes.proofs.settle.Tie as tie
+
+enum-told : tie.Need-enum-told
+enum-told c = search needs
+
+put-requires : tie.Need-put-requires
+put-requires c κs = search needs
+
+enum-told-2 : tie.Need-enum-told-2
+enum-told-2 c = search needs
+
+put-requires-2 : tie.Need-put-requires-2
+put-requires-2 c κs = search needs
+
+enum-told-3 : tie.Need-enum-told-3
+enum-told-3 c = search needs
+
+same-length : tie.Need-same-length
+same-length c = search needs
+
+returns : tie.Need-returns
+returns c = rw (c .before .before .before .before .enum-told .given .1) (c .before .before .put .ensures)
+
+same-length-2 : tie.Need-same-length-2
+same-length-2 c = search needs
+
+returns-2 : tie.Need-returns-2
+returns-2 c = rw (c .before .before .before .before .enum-told2 .given .1) (c .before .before .put2 .ensures)
+
+returns-3 : tie.Need-returns-3
+returns-3 c = search needs
+
+pub settle-spec : {M : Type 1} → statement M
+settle-spec =
+    tie.close
+    (tie.spec
+    enum-told
+    put-requires
+    enum-told-2
+    put-requires-2
+    enum-told-3
+    same-length
+    returns
+    same-length-2
+    returns-2
+    returns-3)

@@ -1,0 +1,207 @@
+// A row of calls, or a port's one, in lent bytes: 102 to a record, for programs in other languages (01 'Calls'). The decisions are those of `exchange` and `placing`, by their functions of values; here a
+// record is found, read, and stored again where something is accepted. Nothing else is touched, and no refusal changes a byte.
+use call::Answer;
+use call::Call;
+use call::Command;
+use call::Step;
+use exchange::Taken;
+use placing::Placed;
+use plan::Plan;
+use routing::Outcome;
+use setup::Setup;
+ghost use mathlib.Core.Path.{_≡_};
+ghost use mathlib.Core.Bool.{cond};
+ghost use mathlib.Core.List.{[], _∷_};
+ghost use Prim.Native.Nat.{_*_, _/_, _<_, _≤_};
+ghost use lib.ListN.{length, replicate};
+ghost use Rattle.routing.specs.Routing.{sourceList, targetList};
+ghost use Rattle.call.specs.Protocol.{step, cleared};
+ghost use Rattle.call.specs.History.{accepted};
+ghost use Rattle.call.specs.Row.{lowestFree, recordAt, says, command as by-command, turn};
+ghost use Rattle.exchange.specs.Lent.{takenAt};
+ghost use Rattle.placing.specs.Rows.{outcomeIn, placedIn, rowAfter, turned};
+ghost use Rattle.callbytes.specs.Codec.{callIn, callBytes};
+ghost use Rattle.rowbytes.specs.Rows.{recordsIn, rowIn, clearedIn, putIn, after, portCommanded, portAfter};
+ghost use Rattle.rowbytes.specs.Parts.{settledBy, keptBy, portKeptBy};
+
+// ---- a record of the row
+
+// A record copied out, and whether the row has it.
+fn taken_at(row: &[u8], r: usize) -> Taken
+    ensures { λ z. ⌜ z ≡ takenAt (rowIn (now (row .entry))) r ⌝ }
+{
+    if r < row.len() / 102 {
+        Taken {
+            inside: true,
+            call: callbytes::call_at(row, 102 * r),
+        }
+    } else {
+        Taken {
+            inside: false,
+            call: Call::cleared(),
+        }
+    }
+}
+
+// A record stored, where the row has it.
+fn put(row: &mut [u8], r: usize, c: Call)
+    ensures { λ _. ⌜ now (row .exit) ≡ putIn (now (row .entry)) r c ⌝ }
+{
+    if r < row.len() / 102 {
+        callbytes::put_at(row, 102 * r, c);
+    }
+}
+
+// The lowest free record; how many there are where none is free.
+pub fn lowest_free(row: &[u8]) -> usize
+    ensures { λ r. ⌜ r ≡ lowestFree (rowIn (now (row .entry))) ⌝ }
+{
+    let n = row.len() / 102;
+    let mut i: usize = 0;
+    while i < n {
+        if callbytes::free_at(row, 102 * i) {
+            return i;
+        }
+        i += 1;
+    }
+    i
+}
+
+// ---- clearing
+
+// Every record cleared. A cleared record's bytes are all 0.
+pub fn clear(row: &mut [u8])
+    ensures { λ _. ⌜ (now (row .exit) ≡ clearedIn (now (row .entry))) × (rowIn (now (row .exit)) ≡ replicate (recordsIn (now (row .entry))) cleared) ⌝ }
+{
+    let end = row.len() / 102 * 102;
+    let mut i: usize = 0;
+    while i < end {
+        row[i] = 0;
+        i += 1;
+    }
+}
+
+// ---- commands
+
+// The record after an accepted step is stored.
+fn settle(row: &mut [u8], r: usize, s: Step)
+    ensures { λ _. ⌜ now (row .exit) ≡ settledBy (s .answer) (now (row .entry)) r (s .call) ⌝ }
+{
+    let answer = s.answer;
+    let c = s.call;
+    match answer {
+        Answer::Accepted => put(row, r, c),
+        Answer::Delivered(_) => put(row, r, c),
+        Answer::Refused(_) => {}
+    }
+}
+
+// A command for the record r and this use number.
+pub fn command(row: &mut [u8], r: usize, use_number: u16, k: Command) -> Answer
+    ensures { λ z. ⌜ (says z ≡ turn (rowIn (now (row .entry))) (by-command r «use_number» k) .reply)
+        × (now (row .exit) ≡ after (now (row .entry)) r (turn (rowIn (now (row .entry))) (by-command r «use_number» k)))
+        × (rowIn (now (row .exit)) ≡ turn (rowIn (now (row .entry))) (by-command r «use_number» k) .row) ⌝ }
+{
+    let n = row.len() / 102;
+    let t = taken_at(row, r);
+    let s = exchange::commanded(n, t, use_number, k);
+    let c = s.call;
+    callbytes::held(c);
+    settle(row, r, s);
+    s.answer
+}
+
+// ---- placing
+
+// The call is placed in the record r, which holds c, where it was routed.
+fn keep(row: &mut [u8], r: usize, a: routing::Answer, c: Call)
+    ensures { λ _. ⌜ now (row .exit) ≡ keptBy (a .outcome) (now (row .entry)) r c ⌝ }
+{
+    let o = a.outcome;
+    match o {
+        Outcome::Routed(_) => put(row, r, c.placed()),
+        Outcome::Refused(_) => {}
+    }
+}
+
+// A call is placed in the row's lowest free record.
+pub fn place(
+    row: &mut [u8],
+    plan: Plan,
+    out: Setup,
+    source_list: &mut [u8],
+    target_list: &mut [u8],
+) -> Placed
+    ensures { λ z. ⌜ (z ≡ placedIn (rowIn (now (row .entry))) plan out (length (now («source_list» .entry))) (length (now («target_list» .entry))))
+        × (now (row .exit) ≡ after (now (row .entry)) (lowestFree (rowIn (now (row .entry)))) (turned (rowIn (now (row .entry))) (outcomeIn (rowIn (now (row .entry))) plan out (length (now («source_list» .entry))) (length (now («target_list» .entry))))))
+        × (rowIn (now (row .exit)) ≡ rowAfter (rowIn (now (row .entry))) plan out (length (now («source_list» .entry))) (length (now («target_list» .entry))))
+        × (now («source_list» .exit) ≡ sourceList plan out (outcomeIn (rowIn (now (row .entry))) plan out (length (now («source_list» .entry))) (length (now («target_list» .entry)))) (now («source_list» .entry)))
+        × (now («target_list» .exit) ≡ targetList plan out (outcomeIn (rowIn (now (row .entry))) plan out (length (now («source_list» .entry))) (length (now («target_list» .entry)))) (now («target_list» .entry))) ⌝ }
+{
+    let n = row.len() / 102;
+    let r = lowest_free(row);
+    let later = placing::later_for(n, r);
+    let a = routing::route_unless(plan, out, later, source_list, target_list);
+    let t = taken_at(row, r);
+    let c = t.call;
+    keep(row, r, a, c);
+    placing::answer_for(a, r, c)
+}
+
+// ---- a port
+
+fn port_in(bytes: [u8; 102]) -> Call
+    ensures { λ r. ⌜ r ≡ callIn bytes ⌝ }
+{
+    callbytes::call_at(&bytes, 0)
+}
+
+// A command for the port's record.
+pub fn port_command(port: &mut [u8; 102], k: Command) -> Answer
+    ensures { λ z. ⌜ (z ≡ step (callIn (now (port .entry))) k .answer)
+        × (now (port .exit) ≡ portCommanded (now (port .entry)) k)
+        × (callIn (now (port .exit)) ≡ step (callIn (now (port .entry))) k .call) ⌝ }
+{
+    let c = port_in(*port);
+    let s = c.step(k);
+    let answer = s.answer;
+    let next = s.call;
+    callbytes::held(next);
+    match answer {
+        Answer::Accepted => *port = callbytes::call_bytes(next),
+        Answer::Delivered(_) => *port = callbytes::call_bytes(next),
+        Answer::Refused(_) => {}
+    }
+    answer
+}
+
+fn port_keep(port: &mut [u8; 102], a: routing::Answer, c: Call)
+    ensures { λ _. ⌜ now (port .exit) ≡ portKeptBy (a .outcome) (now (port .entry)) c ⌝ }
+{
+    let o = a.outcome;
+    match o {
+        Outcome::Routed(_) => *port = callbytes::call_bytes(c.placed()),
+        Outcome::Refused(_) => {}
+    }
+}
+
+// A call is placed in the port's record, as in a row of one.
+pub fn port_place(
+    port: &mut [u8; 102],
+    plan: Plan,
+    out: Setup,
+    source_list: &mut [u8],
+    target_list: &mut [u8],
+) -> Placed
+    ensures { λ z. ⌜ (z ≡ placedIn (callIn (now (port .entry)) ∷ []) plan out (length (now («source_list» .entry))) (length (now («target_list» .entry))))
+        × (now (port .exit) ≡ portAfter (now (port .entry)) (turned (callIn (now (port .entry)) ∷ []) (outcomeIn (callIn (now (port .entry)) ∷ []) plan out (length (now («source_list» .entry))) (length (now («target_list» .entry))))))
+        × (callIn (now (port .exit)) ≡ recordAt (rowAfter (callIn (now (port .entry)) ∷ []) plan out (length (now («source_list» .entry))) (length (now («target_list» .entry)))) 0)
+        × (now («source_list» .exit) ≡ sourceList plan out (outcomeIn (callIn (now (port .entry)) ∷ []) plan out (length (now («source_list» .entry))) (length (now («target_list» .entry)))) (now («source_list» .entry)))
+        × (now («target_list» .exit) ≡ targetList plan out (outcomeIn (callIn (now (port .entry)) ∷ []) plan out (length (now («source_list» .entry))) (length (now («target_list» .entry)))) (now («target_list» .entry))) ⌝ }
+{
+    let c = port_in(*port);
+    let later = placing::port_later(c);
+    let a = routing::route_unless(plan, out, later, source_list, target_list);
+    port_keep(port, a, c);
+    placing::answer_for(a, 0, c)
+}
