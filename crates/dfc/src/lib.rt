@@ -14,6 +14,7 @@ use planwrite::Written;
 use refusal::Place;
 use refusal::Refusal;
 use routing::Callee;
+use routing::Later;
 use zone::Zone;
 
 // Number 0 and the operation's value; or document 01's number of a refusal and its place.
@@ -82,7 +83,7 @@ fn maker_of(kind: u8, of_type: u8, address: u32) -> Maker
 pub extern "C" fn dfc_check(file: &[u8]) -> Answer
     ensures { λ r. ⌜ r ≡ checked (now (file .entry)) ⌝ }
 {
-    let reading = planread::read(file);
+    let reading = planback::read(file);
     let verdict = reading.answer;
     match verdict {
         Verdict::Sound => accepted(0),
@@ -104,11 +105,11 @@ fn written_said(w: Written) -> Answer
 pub extern "C" fn dfc_write(file: &[u8], room: &mut [u8]) -> Answer
     ensures { λ r. ⌜ (r ≡ rewritten (now (file .entry)) (now (room .entry))) × (now (room .exit) ≡ roomRewritten (now (file .entry)) (now (room .entry))) ⌝ }
 {
-    let reading = planread::read(file);
+    let reading = planback::read(file);
     let verdict = reading.answer;
     let plan = reading.plan;
     match verdict {
-        Verdict::Sound => written_said(planwrite::write(plan, room)),
+        Verdict::Sound => written_said(planwrite::write_tested(true, plan, room)),
         Verdict::Refused(r) => refused(r),
     }
 }
@@ -126,7 +127,7 @@ fn types_of(zone: Zone) -> [u8; 32]
 pub extern "C" fn dfc_zone(file: &[u8], region: u8, address: u32, types: &mut [u8; 32]) -> Answer
     ensures { λ r. ⌜ (r ≡ zoned (now (file .entry)) region address) × (now (types .exit) ≡ typesZoned (now (file .entry)) region address (now (types .entry))) ⌝ }
 {
-    let reading = planread::read(file);
+    let reading = planback::read(file);
     let verdict = reading.answer;
     let plan = reading.plan;
     match verdict {
@@ -170,12 +171,18 @@ pub extern "C" fn dfc_new(
     ensures { λ r. ⌜ (r ≡ making (now (file .entry)) (newOver (now (file .entry)) (makerOf kind «of_type» address) (now (string .entry)) target))
         × (now (room .exit) ≡ roomMaking (now (file .entry)) (newOver (now (file .entry)) (makerOf kind «of_type» address) (now (string .entry)) target) (now (room .entry))) ⌝ }
 {
-    let reading = planread::read(file);
+    let reading = planback::read(file);
     let verdict = reading.answer;
     let plan = reading.plan;
     match verdict {
         Verdict::Sound => {
-            let m = making::new_setup(plan, maker_of(kind, of_type, address), string, target);
+            let m = making::new_tested(
+                true,
+                plan,
+                maker_of(kind, of_type, address),
+                string,
+                target,
+            );
             handed(m, room)
         }
         Verdict::Refused(r) => refused(r),
@@ -198,14 +205,14 @@ pub extern "C" fn dfc_continued(
     ensures { λ r. ⌜ (r ≡ making (now (file .entry)) (continuedOver (now (file .entry)) (makerOf kind «of_type» address) (now (setup .entry)) source (now (string .entry)) target))
         × (now (room .exit) ≡ roomMaking (now (file .entry)) (continuedOver (now (file .entry)) (makerOf kind «of_type» address) (now (setup .entry)) source (now (string .entry)) target) (now (room .entry))) ⌝ }
 {
-    let reading = planread::read(file);
+    let reading = planback::read(file);
     let verdict = reading.answer;
     let plan = reading.plan;
     match verdict {
         Verdict::Sound => {
             let s = setupbytes::setup_in(setup);
             let maker = maker_of(kind, of_type, address);
-            let m = making::continued_setup(plan, maker, s, source, string, target);
+            let m = making::continued_tested(true, plan, maker, s, source, string, target);
             handed(m, room)
         }
         Verdict::Refused(r) => refused(r),
@@ -228,14 +235,14 @@ pub extern "C" fn dfc_reversed(
     ensures { λ r. ⌜ (r ≡ making (now (file .entry)) (reversedOver (now (file .entry)) (makerOf kind «of_type» address) (now (setup .entry)) source (now (string .entry)) target))
         × (now (room .exit) ≡ roomMaking (now (file .entry)) (reversedOver (now (file .entry)) (makerOf kind «of_type» address) (now (setup .entry)) source (now (string .entry)) target) (now (room .entry))) ⌝ }
 {
-    let reading = planread::read(file);
+    let reading = planback::read(file);
     let verdict = reading.answer;
     let plan = reading.plan;
     match verdict {
         Verdict::Sound => {
             let s = setupbytes::setup_in(setup);
             let maker = maker_of(kind, of_type, address);
-            let m = making::reversed_setup(plan, maker, s, source, string, target);
+            let m = making::reversed_tested(true, plan, maker, s, source, string, target);
             handed(m, room)
         }
         Verdict::Refused(r) => refused(r),
@@ -361,13 +368,20 @@ pub extern "C" fn dfc_route(
         × (now («target_list» .exit) ≡ targetRouted (now (file .entry)) (now (setup .entry)) (length (now («source_list» .entry))) (length (now («target_list» .entry))) (now («target_list» .entry)))
         × (now (room .exit) ≡ roomRouted (now (file .entry)) (now (setup .entry)) (length (now («source_list» .entry))) (length (now («target_list» .entry))) (now (room .entry))) ⌝ }
 {
-    let reading = planread::read(file);
+    let reading = planback::read(file);
     let verdict = reading.answer;
     let plan = reading.plan;
     match verdict {
         Verdict::Sound => {
             let out = setupbytes::setup_in(setup);
-            let a = routing::route(plan, out, source_list, target_list);
+            let a = routing::route_tested(
+                true,
+                plan,
+                out,
+                Later::Nothing,
+                source_list,
+                target_list,
+            );
             received(a, room)
         }
         Verdict::Refused(r) => not_routed(r),

@@ -32,7 +32,7 @@ use Rattle.setup.specs.Setups.{routing, routingAddress, listOf, wellFormed}
 use Rattle.making.specs.declared.Maker.the-variants.{Feature as FeatureMaker}
 use Rattle.making.specs.declared.Maker.{Maker}
 use Rattle.making.specs.declared.Outcome.the-variants.{Made}
-use Rattle.making.specs.Making.{isList, notOwn, somebody, continuedOutcome, continuedSetup}
+use Rattle.making.specs.Making.{isList, notOwn, somebody, continuedOutcome, continuedOutcomeBy, continuedSetup}
 use Rattle.making.proofs.Outcomes.{Continued}
 use Rattle.making.proofs.WellFormed.{continued-well-formed}
 use Rattle.routing.specs.declared.Callee.{Callee}
@@ -124,7 +124,7 @@ no-argument Target a = refl
 
 made-of : (p : Plan) (m : Maker) (s : Setup) (sourceArg : ℕ) (string : List ℕ) (targetArg : ℕ) → Continued p m s sourceArg string targetArg
     → continuedOutcome p m s sourceArg string targetArg ≡ Made
-unfolding continuedOutcome
+unfolding continuedOutcomeBy
 made-of p m s sourceArg string targetArg k =
     rw (k .kept, k .exists, k .may-make, k .held-here, k .from-list, k .routed-here, k .string-legal, k .another, k .both-legal)
 

@@ -25,7 +25,7 @@ use Rattle.routing.specs.declared.Outcome.the-variants.{Routed}
 use Rattle.routing.specs.declared.Answer.{Answer}
 use Rattle.routing.specs.Interface.{isFeature, addressOf}
 use Rattle.routing.specs.Steps.{calleeOf, receivedOf, leftOf}
-use Rattle.routing.specs.Routing.{roomy, settled, outcome, answer, answered as routedAnswer}
+use Rattle.routing.specs.Routing.{roomy, settledBy, outcomeBy, answer, answerBy, answered as routedAnswer}
 use Rattle.journey.specs.declared.Trip.{Trip}
 use Rattle.journey.specs.Hops.{Hop, hop, passedOn, onward, hops}
 use Rattle.journey.specs.Listing.{kindWord, numberIn, spaced, line, lines}
@@ -37,7 +37,7 @@ use Rattle.journey.proofs.Texts.{spaced-short, kind-short}
 
 given : (p : Plan) (s : Setup) → sound p ≡ true → wellFormed p s ≡ true
     → answer p s Nothing 32 32 ≡ record { outcome = Routed (calleeOf p s); setup = receivedOf p s; left = leftOf p s }
-unfolding answer outcome settled roomy routedAnswer
+unfolding answerBy outcomeBy settledBy roomy routedAnswer
 given p s 𝓢 w = rw (𝓢, w)
 
 -- ---- one hop more

@@ -28,7 +28,7 @@ use Rattle.making.specs.declared.Maker.{Maker}
 use Rattle.making.specs.declared.Outcome.{Outcome}
 use Rattle.making.specs.declared.Outcome.the-variants.{Made, Refused}
 use Rattle.making.specs.declared.Answer.{Answer}
-use Rattle.making.specs.Making.{boxAddress, boxType, typeExists, makesNew, makesMore, addressHeld, turned, unless, isList, notOwn, newSetup, continuedSetup, reversedSetup, newOutcome, continuedOutcome, reversedOutcome, answered, newAnswer, continuedAnswer, reversedAnswer, numberOfOutcome, placeOfOutcome}
+use Rattle.making.specs.Making.{boxAddress, boxType, typeExists, makesNew, makesMore, addressHeld, turned, unless, isList, notOwn, newSetup, continuedSetup, reversedSetup, newOutcome, newOutcomeBy, continuedOutcome, continuedOutcomeBy, reversedOutcome, reversedOutcomeBy, answered, newAnswer, continuedAnswer, reversedAnswer, numberOfOutcome, placeOfOutcome}
 use Rattle.making.specs.Rows.{Row, firstOf, noneOf, givenIn, ownGiven, tooLarge, newRows, continuedRows, reversedRows}
 
 -- ---- any list of rows
@@ -129,14 +129,14 @@ unfolding tooLarge
 large-row sourceArg targetArg = both-or (legal sourceArg) (legal targetArg)
 
 pub new-number : (p : Plan) (m : Maker) (string : List ℕ) (targetArg : ℕ) → numberOfOutcome (newOutcome p m string targetArg) ≡ firstOf (newRows p m string targetArg)
-unfolding newOutcome newRows firstOf
+unfolding newOutcomeBy newRows firstOf
 new-number p m string targetArg =
     said (sound p) _ _ _ _ refl (said (typeExists p m) _ _ _ _ refl (said (makesNew m) _ _ _ _ refl (said (addressHeld p m) _ _ _ _ refl
     (said (legalString string) _ _ _ _ refl (said (legal targetArg) _ _ _ _ refl refl)))))
 
 pub continued-number : (p : Plan) (m : Maker) (s : Setup) (sourceArg : ℕ) (string : List ℕ) (targetArg : ℕ)
     → numberOfOutcome (continuedOutcome p m s sourceArg string targetArg) ≡ firstOf (continuedRows p m s sourceArg string targetArg)
-unfolding continuedOutcome continuedRows firstOf
+unfolding continuedOutcomeBy continuedRows firstOf
 continued-number p m s sourceArg string targetArg =
     said (sound p) _ _ _ _ refl (said (typeExists p m) _ _ _ _ refl (said (makesMore m) _ _ _ _ refl (said (addressHeld p m) _ _ _ _ refl
     (said (wellFormed p s && isList (s .route)) _ _ _ _ (both-or (wellFormed p s) (isList (s .route)))
@@ -146,7 +146,7 @@ continued-number p m s sourceArg string targetArg =
 
 pub reversed-number : (p : Plan) (m : Maker) (s : Setup) (sourceArg : ℕ) (string : List ℕ) (targetArg : ℕ)
     → numberOfOutcome (reversedOutcome p m s sourceArg string targetArg) ≡ firstOf (reversedRows p m s sourceArg string targetArg)
-unfolding reversedOutcome reversedRows firstOf
+unfolding reversedOutcomeBy reversedRows firstOf
 reversed-number p m s sourceArg string targetArg =
     said (sound p) _ _ _ _ refl (said (typeExists p m) _ _ _ _ refl (said (makesMore m) _ _ _ _ refl (said (addressHeld p m) _ _ _ _ refl
     (said (has (boxType m) (p .types .reversible)) _ _ _ _ refl (said (wellFormed p s) _ _ _ _ refl (said (legalString string) _ _ _ _ refl
@@ -268,14 +268,14 @@ first-at true rest h = h
 first-at false rest h = refl
 
 pub new-place : (p : Plan) (m : Maker) (string : List ℕ) (targetArg : ℕ) → placeOfOutcome (newOutcome p m string targetArg) ≡ cond (sound p) Nowhere (At 0)
-unfolding newOutcome
+unfolding newOutcomeBy
 new-place p m string targetArg =
     first-at (sound p) _ (said-at (typeExists p m) _ _ refl (said-at (makesNew m) _ _ refl (said-at (addressHeld p m) _ _ refl
     (said-at (legalString string) _ _ refl (said-at (legal targetArg) _ _ refl refl)))))
 
 pub continued-place : (p : Plan) (m : Maker) (s : Setup) (sourceArg : ℕ) (string : List ℕ) (targetArg : ℕ)
     → placeOfOutcome (continuedOutcome p m s sourceArg string targetArg) ≡ cond (sound p) Nowhere (At 0)
-unfolding continuedOutcome
+unfolding continuedOutcomeBy
 continued-place p m s sourceArg string targetArg =
     first-at (sound p) _ (said-at (typeExists p m) _ _ refl (said-at (makesMore m) _ _ refl (said-at (addressHeld p m) _ _ refl
     (said-at (wellFormed p s && isList (s .route)) _ _ refl (said-at (eqb (routingAddress s) (boxAddress m)) _ _ refl (said-at (legalString string) _ _ refl
@@ -283,7 +283,7 @@ continued-place p m s sourceArg string targetArg =
 
 pub reversed-place : (p : Plan) (m : Maker) (s : Setup) (sourceArg : ℕ) (string : List ℕ) (targetArg : ℕ)
     → placeOfOutcome (reversedOutcome p m s sourceArg string targetArg) ≡ cond (sound p) Nowhere (At 0)
-unfolding reversedOutcome
+unfolding reversedOutcomeBy
 reversed-place p m s sourceArg string targetArg =
     first-at (sound p) _ (said-at (typeExists p m) _ _ refl (said-at (makesMore m) _ _ refl (said-at (addressHeld p m) _ _ refl
     (said-at (has (boxType m) (p .types .reversible)) _ _ refl (said-at (wellFormed p s) _ _ refl (said-at (legalString string) _ _ refl
@@ -324,11 +324,11 @@ reversed-said p m s sourceArg string targetArg r e =
 pub continued-fault : (p : Plan) (m : Maker) (s : Setup) (sourceArg : ℕ) (string : List ℕ) (targetArg : ℕ)
     → sound p ≡ true → typeExists p m ≡ true → makesMore m ≡ true → addressHeld p m ≡ true
     → wellFormed p s ≡ false → numberOfOutcome (continuedOutcome p m s sourceArg string targetArg) ≡ numberOfFault (fault p s)
-unfolding continuedOutcome
+unfolding continuedOutcomeBy
 continued-fault p m s sourceArg string targetArg a b c d e = rw (a, b, c, d, e, fault-number p s, e)
 
 pub reversed-fault : (p : Plan) (m : Maker) (s : Setup) (sourceArg : ℕ) (string : List ℕ) (targetArg : ℕ)
     → sound p ≡ true → typeExists p m ≡ true → makesMore m ≡ true → addressHeld p m ≡ true → has (boxType m) (p .types .reversible) ≡ true
     → wellFormed p s ≡ false → numberOfOutcome (reversedOutcome p m s sourceArg string targetArg) ≡ numberOfFault (fault p s)
-unfolding reversedOutcome
+unfolding reversedOutcomeBy
 reversed-fault p m s sourceArg string targetArg a b c d e f = rw (a, b, c, d, e, f, fault-number p s, f)

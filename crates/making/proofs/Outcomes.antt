@@ -21,7 +21,7 @@ use Rattle.making.specs.declared.Outcome.the-variants.{Made, Refused}
 use Rattle.making.specs.declared.Answer.{Answer}
 use Rattle.setup.specs.Dialling.{symbol, legalString}
 use Rattle.setup.specs.Setups.{routingAddress, wellFormed}
-use Rattle.making.specs.Making.{boxAddress, boxType, typeExists, makesNew, makesMore, addressHeld, turned, unless, isList, notOwn, newOutcome, continuedOutcome, reversedOutcome, answered}
+use Rattle.making.specs.Making.{boxAddress, boxType, typeExists, makesNew, makesMore, addressHeld, turned, unless, isList, notOwn, newOutcome, newOutcomeBy, continuedOutcome, continuedOutcomeBy, reversedOutcome, reversedOutcomeBy, answered}
 use Rattle.setup.proofs.Stored.{all-32}
 
 -- a test that did not refuse passed, and what follows it did not refuse
@@ -46,25 +46,25 @@ legal-all l e = all-32 l (leb-true (length l) 32 (and-left (leb (length l) 32) (
 
 -- ---- what each way to make a setup has shown where it made one
 
-pub record New (p : Plan) (m : Maker) (string : List ℕ) (targetArg : ℕ) : Type 0 where
-  pub kept : sound p ≡ true
+pub record New (verdict : Bool) (p : Plan) (m : Maker) (string : List ℕ) (targetArg : ℕ) : Type 0 where
+  pub kept : verdict ≡ true
   pub exists : typeExists p m ≡ true
   pub may-make : makesNew m ≡ true
   pub held-here : addressHeld p m ≡ true
   pub string-legal : legalString string ≡ true
   pub target-legal : legal targetArg ≡ true
 
-pub new-made : (p : Plan) (m : Maker) (string : List ℕ) (targetArg : ℕ) → newOutcome p m string targetArg ≡ Made → New p m string targetArg
-unfolding newOutcome
-new-made p m string targetArg e =
+pub new-made-by : (verdict : Bool) (p : Plan) (m : Maker) (string : List ℕ) (targetArg : ℕ) → newOutcomeBy verdict p m string targetArg ≡ Made → New verdict p m string targetArg
+unfolding newOutcomeBy
+new-made-by verdict p m string targetArg e =
     let e0 = e in
-    let e1 = unless-rest (sound p) (RuleBroken 0) _ e0 in
+    let e1 = unless-rest verdict (RuleBroken 0) _ e0 in
     let e2 = unless-rest (typeExists p m) NoSuchType _ e1 in
     let e3 = unless-rest (makesNew m) NotForThisBox _ e2 in
     let e4 = unless-rest (addressHeld p m) WrongAddress _ e3 in
     let e5 = unless-rest (legalString string) BadString _ e4 in
     record {
-      kept = unless-passed (sound p) (RuleBroken 0) _ e0;
+      kept = unless-passed verdict (RuleBroken 0) _ e0;
       exists = unless-passed (typeExists p m) NoSuchType _ e1;
       may-make = unless-passed (makesNew m) NotForThisBox _ e2;
       held-here = unless-passed (addressHeld p m) WrongAddress _ e3;
@@ -72,8 +72,11 @@ new-made p m string targetArg e =
       target-legal = unless-passed (legal targetArg) AddressTooLarge _ e5;
     }
 
-pub record Continued (p : Plan) (m : Maker) (s : Setup) (sourceArg : ℕ) (string : List ℕ) (targetArg : ℕ) : Type 0 where
-  pub kept : sound p ≡ true
+pub new-made : (p : Plan) (m : Maker) (string : List ℕ) (targetArg : ℕ) → newOutcome p m string targetArg ≡ Made → New (sound p) p m string targetArg
+new-made p m string targetArg e = new-made-by (sound p) p m string targetArg e
+
+pub record Continued (verdict : Bool) (p : Plan) (m : Maker) (s : Setup) (sourceArg : ℕ) (string : List ℕ) (targetArg : ℕ) : Type 0 where
+  pub kept : verdict ≡ true
   pub exists : typeExists p m ≡ true
   pub may-make : makesMore m ≡ true
   pub held-here : addressHeld p m ≡ true
@@ -83,11 +86,11 @@ pub record Continued (p : Plan) (m : Maker) (s : Setup) (sourceArg : ℕ) (strin
   pub another : notOwn (s .region) (boxAddress m) sourceArg targetArg ≡ true
   pub both-legal : (legal sourceArg && legal targetArg) ≡ true
 
-pub continued-made : (p : Plan) (m : Maker) (s : Setup) (sourceArg : ℕ) (string : List ℕ) (targetArg : ℕ) → continuedOutcome p m s sourceArg string targetArg ≡ Made → Continued p m s sourceArg string targetArg
-unfolding continuedOutcome
-continued-made p m s sourceArg string targetArg e =
+pub continued-made-by : (verdict : Bool) (p : Plan) (m : Maker) (s : Setup) (sourceArg : ℕ) (string : List ℕ) (targetArg : ℕ) → continuedOutcomeBy verdict p m s sourceArg string targetArg ≡ Made → Continued verdict p m s sourceArg string targetArg
+unfolding continuedOutcomeBy
+continued-made-by verdict p m s sourceArg string targetArg e =
     let e0 = e in
-    let e1 = unless-rest (sound p) (RuleBroken 0) _ e0 in
+    let e1 = unless-rest verdict (RuleBroken 0) _ e0 in
     let e2 = unless-rest (typeExists p m) NoSuchType _ e1 in
     let e3 = unless-rest (makesMore m) NotForThisBox _ e2 in
     let e4 = unless-rest (addressHeld p m) WrongAddress _ e3 in
@@ -96,7 +99,7 @@ continued-made p m s sourceArg string targetArg e =
     let e7 = unless-rest (legalString string) BadString _ e6 in
     let e8 = unless-rest (notOwn (s .region) (boxAddress m) sourceArg targetArg) OwnAddress _ e7 in
     record {
-      kept = unless-passed (sound p) (RuleBroken 0) _ e0;
+      kept = unless-passed verdict (RuleBroken 0) _ e0;
       exists = unless-passed (typeExists p m) NoSuchType _ e1;
       may-make = unless-passed (makesMore m) NotForThisBox _ e2;
       held-here = unless-passed (addressHeld p m) WrongAddress _ e3;
@@ -107,8 +110,11 @@ continued-made p m s sourceArg string targetArg e =
       both-legal = unless-passed (legal sourceArg && legal targetArg) AddressTooLarge _ e8;
     }
 
-pub record Reversed (p : Plan) (m : Maker) (s : Setup) (sourceArg : ℕ) (string : List ℕ) (targetArg : ℕ) : Type 0 where
-  pub kept : sound p ≡ true
+pub continued-made : (p : Plan) (m : Maker) (s : Setup) (sourceArg : ℕ) (string : List ℕ) (targetArg : ℕ) → continuedOutcome p m s sourceArg string targetArg ≡ Made → Continued (sound p) p m s sourceArg string targetArg
+continued-made p m s sourceArg string targetArg e = continued-made-by (sound p) p m s sourceArg string targetArg e
+
+pub record Reversed (verdict : Bool) (p : Plan) (m : Maker) (s : Setup) (sourceArg : ℕ) (string : List ℕ) (targetArg : ℕ) : Type 0 where
+  pub kept : verdict ≡ true
   pub exists : typeExists p m ≡ true
   pub may-make : makesMore m ≡ true
   pub held-here : addressHeld p m ≡ true
@@ -118,11 +124,11 @@ pub record Reversed (p : Plan) (m : Maker) (s : Setup) (sourceArg : ℕ) (string
   pub another : notOwn (turned (s .region)) (boxAddress m) sourceArg targetArg ≡ true
   pub both-legal : (legal sourceArg && legal targetArg) ≡ true
 
-pub reversed-made : (p : Plan) (m : Maker) (s : Setup) (sourceArg : ℕ) (string : List ℕ) (targetArg : ℕ) → reversedOutcome p m s sourceArg string targetArg ≡ Made → Reversed p m s sourceArg string targetArg
-unfolding reversedOutcome
-reversed-made p m s sourceArg string targetArg e =
+pub reversed-made-by : (verdict : Bool) (p : Plan) (m : Maker) (s : Setup) (sourceArg : ℕ) (string : List ℕ) (targetArg : ℕ) → reversedOutcomeBy verdict p m s sourceArg string targetArg ≡ Made → Reversed verdict p m s sourceArg string targetArg
+unfolding reversedOutcomeBy
+reversed-made-by verdict p m s sourceArg string targetArg e =
     let e0 = e in
-    let e1 = unless-rest (sound p) (RuleBroken 0) _ e0 in
+    let e1 = unless-rest verdict (RuleBroken 0) _ e0 in
     let e2 = unless-rest (typeExists p m) NoSuchType _ e1 in
     let e3 = unless-rest (makesMore m) NotForThisBox _ e2 in
     let e4 = unless-rest (addressHeld p m) WrongAddress _ e3 in
@@ -131,7 +137,7 @@ reversed-made p m s sourceArg string targetArg e =
     let e7 = unless-rest (legalString string) BadString _ e6 in
     let e8 = unless-rest (notOwn (turned (s .region)) (boxAddress m) sourceArg targetArg) OwnAddress _ e7 in
     record {
-      kept = unless-passed (sound p) (RuleBroken 0) _ e0;
+      kept = unless-passed verdict (RuleBroken 0) _ e0;
       exists = unless-passed (typeExists p m) NoSuchType _ e1;
       may-make = unless-passed (makesMore m) NotForThisBox _ e2;
       held-here = unless-passed (addressHeld p m) WrongAddress _ e3;
@@ -141,3 +147,6 @@ reversed-made p m s sourceArg string targetArg e =
       another = unless-passed (notOwn (turned (s .region)) (boxAddress m) sourceArg targetArg) OwnAddress _ e7;
       both-legal = unless-passed (legal sourceArg && legal targetArg) AddressTooLarge _ e8;
     }
+
+pub reversed-made : (p : Plan) (m : Maker) (s : Setup) (sourceArg : ℕ) (string : List ℕ) (targetArg : ℕ) → reversedOutcome p m s sourceArg string targetArg ≡ Made → Reversed (sound p) p m s sourceArg string targetArg
+reversed-made p m s sourceArg string targetArg e = reversed-made-by (sound p) p m s sourceArg string targetArg e

@@ -86,7 +86,7 @@ addressHeld p (Trunk a) = eqb (kindOf p (lookup p a)) 2
 addressHeld p Resource = true
 addressHeld p Error = true
 
--- ---- what is refused
+-- ---- what is refused, by the verdict on the plan: whether it keeps its rules
 
 -- refused with r where the test fails, else what follows
 abbrev pub unless : Bool → Refusal → Outcome → Outcome
@@ -104,19 +104,22 @@ unfoldable pub notOwn : Region → ℕ → ℕ → ℕ → Bool
 notOwn r box sourceArg targetArg = eqb (routing r sourceArg targetArg) 0 || not (eqb (routing r sourceArg targetArg) box)
 
 -- 23, 1, 2, 3, 7, 9
-unfoldable pub newOutcome : Plan → Maker → List ℕ → ℕ → Outcome
-newOutcome p m string targetArg =
-    unless (sound p) (RuleBroken 0)
+unfoldable pub newOutcomeBy : Bool → Plan → Maker → List ℕ → ℕ → Outcome
+newOutcomeBy kept p m string targetArg =
+    unless kept (RuleBroken 0)
     (unless (typeExists p m) NoSuchType
     (unless (makesNew m) NotForThisBox
     (unless (addressHeld p m) WrongAddress
     (unless (legalString string) BadString
     (unless (legal targetArg) AddressTooLarge Made)))))
 
+abbrev pub newOutcome : Plan → Maker → List ℕ → ℕ → Outcome
+newOutcome p m string targetArg = newOutcomeBy (sound p) p m string targetArg
+
 -- 23, 1, 2, 3, 5, 6, 7, 8, 9
-unfoldable pub continuedOutcome : Plan → Maker → Setup → ℕ → List ℕ → ℕ → Outcome
-continuedOutcome p m s sourceArg string targetArg =
-    unless (sound p) (RuleBroken 0)
+unfoldable pub continuedOutcomeBy : Bool → Plan → Maker → Setup → ℕ → List ℕ → ℕ → Outcome
+continuedOutcomeBy kept p m s sourceArg string targetArg =
+    unless kept (RuleBroken 0)
     (unless (typeExists p m) NoSuchType
     (unless (makesMore m) NotForThisBox
     (unless (addressHeld p m) WrongAddress
@@ -126,10 +129,13 @@ continuedOutcome p m s sourceArg string targetArg =
     (unless (notOwn (s .region) (boxAddress m) sourceArg targetArg) OwnAddress
     (unless (legal sourceArg && legal targetArg) AddressTooLarge Made))))))))
 
+abbrev pub continuedOutcome : Plan → Maker → Setup → ℕ → List ℕ → ℕ → Outcome
+continuedOutcome p m s sourceArg string targetArg = continuedOutcomeBy (sound p) p m s sourceArg string targetArg
+
 -- 23, 1, 2, 3, 4, 5, 7, 8, 9
-unfoldable pub reversedOutcome : Plan → Maker → Setup → ℕ → List ℕ → ℕ → Outcome
-reversedOutcome p m s sourceArg string targetArg =
-    unless (sound p) (RuleBroken 0)
+unfoldable pub reversedOutcomeBy : Bool → Plan → Maker → Setup → ℕ → List ℕ → ℕ → Outcome
+reversedOutcomeBy kept p m s sourceArg string targetArg =
+    unless kept (RuleBroken 0)
     (unless (typeExists p m) NoSuchType
     (unless (makesMore m) NotForThisBox
     (unless (addressHeld p m) WrongAddress
@@ -139,6 +145,9 @@ reversedOutcome p m s sourceArg string targetArg =
     (unless (notOwn (turned (s .region)) (boxAddress m) sourceArg targetArg) OwnAddress
     (unless (legal sourceArg && legal targetArg) AddressTooLarge Made))))))))
 
+abbrev pub reversedOutcome : Plan → Maker → Setup → ℕ → List ℕ → ℕ → Outcome
+reversedOutcome p m s sourceArg string targetArg = reversedOutcomeBy (sound p) p m s sourceArg string targetArg
+
 -- ---- what is answered: the setup, or the refusal and a blank setup beside it
 
 unfoldable pub answered : Outcome → Setup → Answer
@@ -146,16 +155,25 @@ answered Made s = record { outcome = Made; setup = s }
 answered (Refused r) s = record { outcome = Refused r; setup = blankSetup }
 
 -- what the three ways answer
+abbrev pub newAnswerBy : Bool → Plan → Maker → List ℕ → ℕ → Answer
+newAnswerBy kept p m string targetArg = answered (newOutcomeBy kept p m string targetArg) (newSetup (boxAddress m) string targetArg)
+
 abbrev pub newAnswer : Plan → Maker → List ℕ → ℕ → Answer
-newAnswer p m string targetArg = answered (newOutcome p m string targetArg) (newSetup (boxAddress m) string targetArg)
+newAnswer p m string targetArg = newAnswerBy (sound p) p m string targetArg
+
+abbrev pub continuedAnswerBy : Bool → Plan → Maker → Setup → ℕ → List ℕ → ℕ → Answer
+continuedAnswerBy kept p m s sourceArg string targetArg =
+    answered (continuedOutcomeBy kept p m s sourceArg string targetArg) (continuedSetup (boxAddress m) s sourceArg string targetArg)
 
 abbrev pub continuedAnswer : Plan → Maker → Setup → ℕ → List ℕ → ℕ → Answer
-continuedAnswer p m s sourceArg string targetArg =
-    answered (continuedOutcome p m s sourceArg string targetArg) (continuedSetup (boxAddress m) s sourceArg string targetArg)
+continuedAnswer p m s sourceArg string targetArg = continuedAnswerBy (sound p) p m s sourceArg string targetArg
+
+abbrev pub reversedAnswerBy : Bool → Plan → Maker → Setup → ℕ → List ℕ → ℕ → Answer
+reversedAnswerBy kept p m s sourceArg string targetArg =
+    answered (reversedOutcomeBy kept p m s sourceArg string targetArg) (reversedSetup (boxType m) (boxAddress m) s sourceArg string targetArg)
 
 abbrev pub reversedAnswer : Plan → Maker → Setup → ℕ → List ℕ → ℕ → Answer
-reversedAnswer p m s sourceArg string targetArg =
-    answered (reversedOutcome p m s sourceArg string targetArg) (reversedSetup (boxType m) (boxAddress m) s sourceArg string targetArg)
+reversedAnswer p m s sourceArg string targetArg = reversedAnswerBy (sound p) p m s sourceArg string targetArg
 
 -- what an outcome is in document 01's numbers: 0 for a setup that was made, else the number of the refusal
 abbrev pub numberOfOutcome : Outcome → ℕ

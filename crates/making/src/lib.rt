@@ -8,7 +8,7 @@ ghost use Rattle.plan.specs.Parts.{legal};
 ghost use Rattle.plan.specs.Sound.{sound};
 ghost use Rattle.plan.specs.Find.{lookup};
 ghost use Rattle.setup.specs.Setups.{wellFormed};
-ghost use Rattle.making.specs.Making.{boxAddress, boxType, kindOf, somebody, typeExists, makesNew, makesMore, addressHeld, isList, notOwn, newOutcome, continuedOutcome, reversedOutcome, answered, newAnswer, continuedAnswer, reversedAnswer, numberOfOutcome, placeOfOutcome};
+ghost use Rattle.making.specs.Making.{boxAddress, boxType, kindOf, somebody, typeExists, makesNew, makesMore, addressHeld, isList, notOwn, newOutcomeBy, continuedOutcomeBy, reversedOutcomeBy, answered, newAnswerBy, newAnswer, continuedAnswerBy, continuedAnswer, reversedAnswerBy, reversedAnswer, numberOfOutcome, placeOfOutcome};
 ghost use Rattle.making.specs.Rows.{firstOf, newRows, continuedRows, reversedRows};
 use plan::Found;
 use plan::Plan;
@@ -186,10 +186,10 @@ fn both_legal(source_arg: u32, target_arg: u32) -> bool
     plan::legal(target_arg)
 }
 
-fn new_outcome(plan: Plan, maker: Maker, string: &[u8], target_arg: u32) -> Outcome
-    ensures { λ r. ⌜ r ≡ newOutcome plan maker (now (string .entry)) «target_arg» ⌝ }
+fn new_outcome(kept: bool, plan: Plan, maker: Maker, string: &[u8], target_arg: u32) -> Outcome
+    ensures { λ r. ⌜ r ≡ newOutcomeBy kept plan maker (now (string .entry)) «target_arg» ⌝ }
 {
-    if !plan::sound(plan) {
+    if !kept {
         return Outcome::Refused(Refusal::RuleBroken(IN_MEMORY));
     }
     if !type_exists(plan, maker) {
@@ -211,6 +211,7 @@ fn new_outcome(plan: Plan, maker: Maker, string: &[u8], target_arg: u32) -> Outc
 }
 
 fn continued_outcome(
+    kept: bool,
     plan: Plan,
     maker: Maker,
     s: Setup,
@@ -218,11 +219,11 @@ fn continued_outcome(
     string: &[u8],
     target_arg: u32,
 ) -> Outcome
-    ensures { λ r. ⌜ r ≡ continuedOutcome plan maker s «source_arg» (now (string .entry)) «target_arg» ⌝ }
+    ensures { λ r. ⌜ r ≡ continuedOutcomeBy kept plan maker s «source_arg» (now (string .entry)) «target_arg» ⌝ }
 {
     let region = s.region;
     let at = box_address(maker);
-    if !plan::sound(plan) {
+    if !kept {
         return Outcome::Refused(Refusal::RuleBroken(IN_MEMORY));
     }
     if !type_exists(plan, maker) {
@@ -260,6 +261,7 @@ fn reversible_type(plan: Plan, maker: Maker) -> bool
 }
 
 fn reversed_outcome(
+    kept: bool,
     plan: Plan,
     maker: Maker,
     s: Setup,
@@ -267,12 +269,12 @@ fn reversed_outcome(
     string: &[u8],
     target_arg: u32,
 ) -> Outcome
-    ensures { λ r. ⌜ r ≡ reversedOutcome plan maker s «source_arg» (now (string .entry)) «target_arg» ⌝ }
+    ensures { λ r. ⌜ r ≡ reversedOutcomeBy kept plan maker s «source_arg» (now (string .entry)) «target_arg» ⌝ }
 {
     let region = s.region;
     let at = box_address(maker);
     let back = made::turned(region);
-    if !plan::sound(plan) {
+    if !kept {
         return Outcome::Refused(Refusal::RuleBroken(IN_MEMORY));
     }
     if !type_exists(plan, maker) {
@@ -320,13 +322,38 @@ fn answered(outcome: Outcome, s: Setup) -> Answer
     }
 }
 
+// The same by a verdict on the plan, for a caller that has it already: `kept` says whether the plan is sound. Nothing else is taken on trust.
+pub fn new_tested(kept: bool, plan: Plan, maker: Maker, string: &[u8], target_arg: u32) -> Answer
+    ensures { λ r. ⌜ r ≡ newAnswerBy kept plan maker (now (string .entry)) «target_arg» ⌝ }
+{
+    let outcome = new_outcome(kept, plan, maker, string, target_arg);
+    let made = made::new_of(box_address(maker), string, target_arg);
+    answered(outcome, made)
+}
+
 // A new setup (manual 5.4), for any plan, maker, bytes and number.
 pub fn new_setup(plan: Plan, maker: Maker, string: &[u8], target_arg: u32) -> Answer
     ensures { λ r. ⌜ r ≡ newAnswer plan maker (now (string .entry)) «target_arg» ⌝ }
     ensures numbered { λ r. ⌜ (numberOfOutcome (r .outcome) ≡ firstOf (newRows plan maker (now (string .entry)) «target_arg»)) × (placeOfOutcome (r .outcome) ≡ cond (sound plan) Nowhere (At 0)) ⌝ }
 {
-    let outcome = new_outcome(plan, maker, string, target_arg);
-    let made = made::new_of(box_address(maker), string, target_arg);
+    let kept = plan::sound(plan);
+    new_tested(kept, plan, maker, string, target_arg)
+}
+
+// The same by a verdict on the plan, for a caller that has it already: `kept` says whether the plan is sound. Nothing else is taken on trust.
+pub fn continued_tested(
+    kept: bool,
+    plan: Plan,
+    maker: Maker,
+    s: Setup,
+    source_arg: u32,
+    string: &[u8],
+    target_arg: u32,
+) -> Answer
+    ensures { λ r. ⌜ r ≡ continuedAnswerBy kept plan maker s «source_arg» (now (string .entry)) «target_arg» ⌝ }
+{
+    let outcome = continued_outcome(kept, plan, maker, s, source_arg, string, target_arg);
+    let made = made::continued_of(box_address(maker), s, source_arg, string, target_arg);
     answered(outcome, made)
 }
 
@@ -342,8 +369,31 @@ pub fn continued_setup(
     ensures { λ r. ⌜ r ≡ continuedAnswer plan maker s «source_arg» (now (string .entry)) «target_arg» ⌝ }
     ensures numbered { λ r. ⌜ (numberOfOutcome (r .outcome) ≡ firstOf (continuedRows plan maker s «source_arg» (now (string .entry)) «target_arg»)) × (placeOfOutcome (r .outcome) ≡ cond (sound plan) Nowhere (At 0)) ⌝ }
 {
-    let outcome = continued_outcome(plan, maker, s, source_arg, string, target_arg);
-    let made = made::continued_of(box_address(maker), s, source_arg, string, target_arg);
+    let kept = plan::sound(plan);
+    continued_tested(kept, plan, maker, s, source_arg, string, target_arg)
+}
+
+// The same by a verdict on the plan, for a caller that has it already: `kept` says whether the plan is sound. Nothing else is taken on trust.
+pub fn reversed_tested(
+    kept: bool,
+    plan: Plan,
+    maker: Maker,
+    s: Setup,
+    source_arg: u32,
+    string: &[u8],
+    target_arg: u32,
+) -> Answer
+    ensures { λ r. ⌜ r ≡ reversedAnswerBy kept plan maker s «source_arg» (now (string .entry)) «target_arg» ⌝ }
+{
+    let outcome = reversed_outcome(kept, plan, maker, s, source_arg, string, target_arg);
+    let made = made::reversed_of(
+        box_type(maker),
+        box_address(maker),
+        s,
+        source_arg,
+        string,
+        target_arg,
+    );
     answered(outcome, made)
 }
 
@@ -359,14 +409,6 @@ pub fn reversed_setup(
     ensures { λ r. ⌜ r ≡ reversedAnswer plan maker s «source_arg» (now (string .entry)) «target_arg» ⌝ }
     ensures numbered { λ r. ⌜ (numberOfOutcome (r .outcome) ≡ firstOf (reversedRows plan maker s «source_arg» (now (string .entry)) «target_arg»)) × (placeOfOutcome (r .outcome) ≡ cond (sound plan) Nowhere (At 0)) ⌝ }
 {
-    let outcome = reversed_outcome(plan, maker, s, source_arg, string, target_arg);
-    let made = made::reversed_of(
-        box_type(maker),
-        box_address(maker),
-        s,
-        source_arg,
-        string,
-        target_arg,
-    );
-    answered(outcome, made)
+    let kept = plan::sound(plan);
+    reversed_tested(kept, plan, maker, s, source_arg, string, target_arg)
 }

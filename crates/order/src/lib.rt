@@ -6,8 +6,8 @@ ghost use Rattle.order.specs.Rules.{twoOf, reversibleOrdered, reversible
 ghost use Rattle.order.specs.Steps.{carries, closed, emptyUnless, rowSound, pairOrdered, orderedAt, pairOpposed, opposedAt};
 
 // Whether a row that holds b holds whatever b comes before.
-fn carries(rows: [u32; 32], row: u32, b: u32) -> bool
-    ensures { λ r. ⌜ r ≡ carries rows row b ⌝ }
+fn carries(rows: &[u32; 32], row: u32, b: u32) -> bool
+    ensures { λ r. ⌜ r ≡ carries (now (rows .entry)) row b ⌝ }
 {
     if typeset::has(row, b) {
         let after = rows[b as usize];
@@ -18,8 +18,8 @@ fn carries(rows: [u32; 32], row: u32, b: u32) -> bool
 }
 
 // Whether that is so for each type of the row.
-fn closed(rows: [u32; 32], row: u32) -> bool
-    ensures { λ r. ⌜ r ≡ closed rows row ⌝ }
+fn closed(rows: &[u32; 32], row: u32) -> bool
+    ensures { λ r. ⌜ r ≡ closed (now (rows .entry)) row ⌝ }
 {
     for b in 0..32u32 {
         if !carries(rows, row, b) {
@@ -30,8 +30,8 @@ fn closed(rows: [u32; 32], row: u32) -> bool
 }
 
 // The same; an empty row has no type to ask for.
-fn row_closed(rows: [u32; 32], row: u32) -> bool
-    ensures { λ r. ⌜ r ≡ closed rows row ⌝ }
+fn row_closed(rows: &[u32; 32], row: u32) -> bool
+    ensures { λ r. ⌜ r ≡ closed (now (rows .entry)) row ⌝ }
 {
     if row == 0 {
         return true;
@@ -51,9 +51,9 @@ fn empty_unless(chosen: u32, t: u32, row: u32) -> bool
 }
 
 // L2 to L5 at the type t.
-fn row_sound(chosen: u32, rows: [u32; 32], t: u32) -> bool
+fn row_sound(chosen: u32, rows: &[u32; 32], t: u32) -> bool
     requires { ⌜ t < 32 ⌝ }
-    ensures { λ r. ⌜ r ≡ rowSound chosen rows t ⌝ }
+    ensures { λ r. ⌜ r ≡ rowSound chosen (now (rows .entry)) t ⌝ }
 {
     let row = rows[t as usize];
     if !typeset::within(row, chosen) {
@@ -73,7 +73,7 @@ pub fn order_sound(chosen: u32, rows: [u32; 32]) -> bool
     ensures { λ r. ⌜ r ≡ orderSound chosen rows ⌝ }
 {
     for t in 0u32..32u32 {
-        if !row_sound(chosen, rows, t) {
+        if !row_sound(chosen, &rows, t) {
             return false;
         }
     }
@@ -94,9 +94,9 @@ fn two_of(set: u32, a: u32, b: u32) -> bool
 }
 
 // L8 at the types a and b.
-fn pair_ordered(reversible: u32, source: [u32; 32], a: u32, b: u32) -> bool
+fn pair_ordered(reversible: u32, source: &[u32; 32], a: u32, b: u32) -> bool
     requires { ⌜ (a < 32) × (b < 32) ⌝ }
-    ensures { λ r. ⌜ r ≡ pairOrdered reversible source a b ⌝ }
+    ensures { λ r. ⌜ r ≡ pairOrdered reversible (now (source .entry)) a b ⌝ }
 {
     if !two_of(reversible, a, b) {
         return true;
@@ -107,9 +107,9 @@ fn pair_ordered(reversible: u32, source: [u32; 32], a: u32, b: u32) -> bool
     typeset::has(source[b as usize], a)
 }
 
-fn ordered_at(reversible: u32, source: [u32; 32], a: u32) -> bool
+fn ordered_at(reversible: u32, source: &[u32; 32], a: u32) -> bool
     requires { ⌜ a < 32 ⌝ }
-    ensures { λ r. ⌜ r ≡ orderedAt reversible source a ⌝ }
+    ensures { λ r. ⌜ r ≡ orderedAt reversible (now (source .entry)) a ⌝ }
 {
     for b in 0u32..32u32 {
         if !pair_ordered(reversible, source, a, b) {
@@ -120,9 +120,9 @@ fn ordered_at(reversible: u32, source: [u32; 32], a: u32) -> bool
 }
 
 // The same; a type that is not one of these is beside none.
-fn ordered_beside(reversible: u32, source: [u32; 32], a: u32) -> bool
+fn ordered_beside(reversible: u32, source: &[u32; 32], a: u32) -> bool
     requires { ⌜ a < 32 ⌝ }
-    ensures { λ r. ⌜ r ≡ orderedAt reversible source a ⌝ }
+    ensures { λ r. ⌜ r ≡ orderedAt reversible (now (source .entry)) a ⌝ }
 {
     if !typeset::has(reversible, a) {
         return true;
@@ -135,7 +135,7 @@ pub fn reversible_ordered(reversible: u32, source: [u32; 32]) -> bool
     ensures { λ r. ⌜ r ≡ reversibleOrdered reversible source ⌝ }
 {
     for a in 0u32..32u32 {
-        if !ordered_beside(reversible, source, a) {
+        if !ordered_beside(reversible, &source, a) {
             return false;
         }
     }
@@ -149,9 +149,9 @@ fn same(a: bool, b: bool) -> bool
 }
 
 // L9 at the types a and b.
-fn pair_opposed(reversible: u32, source: [u32; 32], target: [u32; 32], a: u32, b: u32) -> bool
+fn pair_opposed(reversible: u32, source: &[u32; 32], target: &[u32; 32], a: u32, b: u32) -> bool
     requires { ⌜ (a < 32) × (b < 32) ⌝ }
-    ensures { λ r. ⌜ r ≡ pairOpposed reversible source target a b ⌝ }
+    ensures { λ r. ⌜ r ≡ pairOpposed reversible (now (source .entry)) (now (target .entry)) a b ⌝ }
 {
     if !two_of(reversible, a, b) {
         return true;
@@ -161,9 +161,9 @@ fn pair_opposed(reversible: u32, source: [u32; 32], target: [u32; 32], a: u32, b
     same(forth, back)
 }
 
-fn opposed_at(reversible: u32, source: [u32; 32], target: [u32; 32], a: u32) -> bool
+fn opposed_at(reversible: u32, source: &[u32; 32], target: &[u32; 32], a: u32) -> bool
     requires { ⌜ a < 32 ⌝ }
-    ensures { λ r. ⌜ r ≡ opposedAt reversible source target a ⌝ }
+    ensures { λ r. ⌜ r ≡ opposedAt reversible (now (source .entry)) (now (target .entry)) a ⌝ }
 {
     for b in 0u32..32u32 {
         if !pair_opposed(reversible, source, target, a, b) {
@@ -174,9 +174,9 @@ fn opposed_at(reversible: u32, source: [u32; 32], target: [u32; 32], a: u32) -> 
 }
 
 // The same; a type that is not one of these is beside none.
-fn opposed_beside(reversible: u32, source: [u32; 32], target: [u32; 32], a: u32) -> bool
+fn opposed_beside(reversible: u32, source: &[u32; 32], target: &[u32; 32], a: u32) -> bool
     requires { ⌜ a < 32 ⌝ }
-    ensures { λ r. ⌜ r ≡ opposedAt reversible source target a ⌝ }
+    ensures { λ r. ⌜ r ≡ opposedAt reversible (now (source .entry)) (now (target .entry)) a ⌝ }
 {
     if !typeset::has(reversible, a) {
         return true;
@@ -189,7 +189,7 @@ pub fn reversible_opposed(reversible: u32, source: [u32; 32], target: [u32; 32])
     ensures { λ r. ⌜ r ≡ reversibleOpposed reversible source target ⌝ }
 {
     for a in 0u32..32u32 {
-        if !opposed_beside(reversible, source, target, a) {
+        if !opposed_beside(reversible, &source, &target, a) {
             return false;
         }
     }

@@ -48,8 +48,8 @@ pub came : (row : List Call) (p : Plan) (s : Setup) (n m : ℕ) → Came row p s
 came row p s n m = by (firstRefusal p s (laterFor row) n m) refl
   where
     by : (l : Later) → firstRefusal p s (laterFor row) n m ≡ l → Came row p s n m
-    by Nothing e = routing-to (calleeOf p s) (settled-passed p s (laterFor row) n m e .nothing) (list-routed p s (laterFor row) n m e)
-    by (Refuse x) e = refusing-by x (list-refused p s (laterFor row) n m x e)
+    by Nothing e = routing-to (calleeOf p s) (settled-passed (sound p) p s (laterFor row) n m e .nothing) (list-routed (sound p) p s (laterFor row) n m e)
+    by (Refuse x) e = refusing-by x (list-refused (sound p) p s (laterFor row) n m x e)
 
 -- ---- a row
 module _ (row : List Call) (p : Plan) (s : Setup) (n m : ℕ) where
@@ -60,13 +60,13 @@ module _ (row : List Call) (p : Plan) (s : Setup) (n m : ℕ) where
   a = answerIn row p s n m
 
   pub answers-placed : answerFor a r (recordAt row r) ≡ placedIn row p s n m
-  answers-placed = ap (λ (o : Outcome). answerBy o a r (recordAt row r)) (answer-outcome p s (laterFor row) n m) ∙ (elim (came row p s n m) as (λ _. answerBy (outcomeIn row p s n m) a r (recordAt row r) ≡ placedIn row p s n m) [
+  answers-placed = ap (λ (o : Outcome). answerBy o a r (recordAt row r)) (answer-outcome (sound p) p s (laterFor row) n m) ∙ (elim (came row p s n m) as (λ _. answerBy (outcomeIn row p s n m) a r (recordAt row r) ≡ placedIn row p s n m) [
     | routing-to c free e ↦ rw (e, places row free)
     | refusing-by x e ↦ rw e
   ])
 
   pub leaves-row : set row r (recordAfter a (recordAt row r)) ≡ rowAfter row p s n m
-  leaves-row = ap (λ (o : Outcome). set row r (recordBy o (recordAt row r))) (answer-outcome p s (laterFor row) n m) ∙ (elim (came row p s n m) as (λ _. set row r (recordBy (outcomeIn row p s n m) (recordAt row r)) ≡ rowAfter row p s n m) [
+  leaves-row = ap (λ (o : Outcome). set row r (recordBy o (recordAt row r))) (answer-outcome (sound p) p s (laterFor row) n m) ∙ (elim (came row p s n m) as (λ _. set row r (recordBy (outcomeIn row p s n m) (recordAt row r)) ≡ rowAfter row p s n m) [
     | routing-to c free e ↦ ap (λ (o : Outcome). set row r (recordBy o (recordAt row r))) e ∙ sym (ap (λ (o : Outcome). turned row o .row) e ∙ ap (λ (t : Turn). t .row) (places row free))
     | refusing-by x e ↦ ap (λ (o : Outcome). set row r (recordBy o (recordAt row r))) e ∙ set-getD row r cleared ∙ sym (ap (λ (o : Outcome). turned row o .row) e)
   ])
@@ -87,13 +87,13 @@ module _ (c : Call) (p : Plan) (s : Setup) (n m : ℕ) where
   port-places free = places one free ∙ ap (placeAt one) (one-free (isFree c) free)
 
   pub port-placed : answerFor b 0 c ≡ placedIn one p s n m
-  port-placed = ap (λ (o : Outcome). answerBy o b 0 c) (answer-outcome p s (laterFor one) n m) ∙ (elim (came one p s n m) as (λ _. answerBy (outcomeIn one p s n m) b 0 c ≡ placedIn one p s n m) [
+  port-placed = ap (λ (o : Outcome). answerBy o b 0 c) (answer-outcome (sound p) p s (laterFor one) n m) ∙ (elim (came one p s n m) as (λ _. answerBy (outcomeIn one p s n m) b 0 c ≡ placedIn one p s n m) [
     | routing-to x free e ↦ rw (e, port-places free)
     | refusing-by x e ↦ rw e
   ])
 
   pub port-record : recordAfter b c ≡ recordAt (rowAfter one p s n m) 0
-  port-record = ap (λ (o : Outcome). recordBy o c) (answer-outcome p s (laterFor one) n m) ∙ (elim (came one p s n m) as (λ _. recordBy (outcomeIn one p s n m) c ≡ recordAt (rowAfter one p s n m) 0) [
+  port-record = ap (λ (o : Outcome). recordBy o c) (answer-outcome (sound p) p s (laterFor one) n m) ∙ (elim (came one p s n m) as (λ _. recordBy (outcomeIn one p s n m) c ≡ recordAt (rowAfter one p s n m) 0) [
     | routing-to x free e ↦ ap (λ (o : Outcome). recordBy o c) e ∙ sym (ap (λ (o : Outcome). recordAt (turned one o .row) 0) e ∙ ap (λ (t : Turn). recordAt (t .row) 0) (port-places free))
     | refusing-by x e ↦ ap (λ (o : Outcome). recordBy o c) e ∙ sym (ap (λ (o : Outcome). recordAt (turned one o .row) 0) e)
   ])

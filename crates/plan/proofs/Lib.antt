@@ -1,4 +1,5 @@
 pub mod Boxes
+pub mod Words
 pub mod Numbers
 pub mod Subscribers
 pub mod Lookup

@@ -4,13 +4,13 @@ use mathlib.Core.Path.{_≡_, refl, sym, ap, _∙_}
 use mathlib.Core.Logic.{_⊎_, inl, inr, ⊎-elim}
 use mathlib.Core.Bool.{Bool, true, false, not, _&&_, _||_, cond}
 use mathlib.Core.List.{List, [], _∷_}
-use Prim.Native.Nat.{ℕ, zero, suc, _+_, _≤_, _<_, min, suc-le-suc}
+use Prim.Native.Nat.{ℕ, zero, suc, _+_, _≤_, _<_, min, suc-le-suc, _/_}
 use native.Mathlib.Nat.{not-suc-le-zero, zero-lt-suc, lt-suc-self, lt-trans}
 use native.Mathlib.Numerals.{add-one}
 use native.Mathlib.Omega.{arith}
 use lib.Dec.{eqb, ltb, leb, leb·suc-suc}
-use lib.ListN.{length, getD, set, take, drop, replicate, length-set, length-take, drop-of-length-le, length-replicate, getD-replicate}
-use lib.Seq.{drop-cons, getD-take, getD-set-same, getD-set-other}
+use lib.ListN.{length, getD, take, drop, replicate, length-take, drop-of-length-le, length-replicate}
+use lib.Seq.{drop-cons, getD-take}
 use borrow.Author.Tests.{eqb-true, eqb-false, eq-eqb, ne-eqb, ltb-true, lt-ltb}
 use Rattle.typeset.specs.Sets.{every, some, implies}
 use Rattle.typeset.proofs.Bools.{yes-or-no, clash, both-ways, fails, and-left, and-right, and-make, or-cases, or-left, or-right, not-true, not-of-false, imp-at, imp-of}
@@ -20,7 +20,8 @@ use Rattle.plan.specs.declared.Subscriber.{Subscriber}
 use Rattle.plan.specs.Parts.{at, box}
 use Rattle.plan.specs.Rules.{holds, shares, linesApart, oneKind}
 use Rattle.plan.specs.Sound.{numbersApart}
-use Rattle.plan.specs.Table.{mayTake, fits, takes, claimed}
+use Rattle.plan.specs.Table.{holder, entered, mayTake, fits, takes, claimed}
+use Rattle.plan.proofs.Words.{entered-own, entered-other, entered-length, holder-none}
 
 -- ---- the loop of `claim`
 
@@ -33,7 +34,7 @@ unfolding rest claimed
 rest-all taken s = refl
 
 pub rest-next : (taken : List ℕ) (s : Subscriber) (x : ℕ) → length (s .boxes) ≡ 4 → x < 4 → x < s .count
-    → rest taken s x ≡ rest (set taken (box s x) (s .kind)) s (x + 1)
+    → rest taken s x ≡ rest (entered taken (box s x) (s .kind)) s (x + 1)
 unfolding rest takes
 rest-next taken s x long h l =
     let inside : x < length (take (s .count) (s .boxes)) = simp (length-take, long) (omega arith) in
@@ -63,27 +64,48 @@ elem n (m ∷ ms) = eqb m n || elem n ms
 takes-length : (taken : List ℕ) (kind : ℕ) (ns : List ℕ) → length (takes taken kind ns) ≡ length taken
 unfolding takes
 takes-length taken kind [] = refl
-takes-length taken kind (m ∷ ms) = takes-length (set taken m kind) kind ms ∙ length-set taken m kind
+takes-length taken kind (m ∷ ms) = takes-length (entered taken m kind) kind ms ∙ entered-length taken m kind
 
-set-at : (taken : List ℕ) (m n kind : ℕ) → n < length taken → getD (set taken m kind) n 0 ≡ cond (eqb m n) kind (getD taken n 0)
-set-at taken m n kind h =
+-- a number that a kind may take: nobody has it, or only the kind itself
+abbrev pub Open : List ℕ → ℕ → ℕ → Type 0
+Open taken kind n = (holder taken n ≡ 0) ⊎ (holder taken n ≡ kind)
+
+entered-at : (taken : List ℕ) (m n kind : ℕ) → kind < 4 → m / 16 < length taken → Open taken kind m → holder (entered taken m kind) n ≡ cond (eqb m n) kind (holder taken n)
+entered-at taken m n kind k h o =
     ⊎-elim
-    (λ e. rw e (ap (λ (k : ℕ). getD (set taken k kind) n 0) (eqb-true m n e) ∙ getD-set-same taken n kind 0 h))
-    (λ e. rw e (getD-set-other taken m n kind 0 (λ q. eqb-false m n e (sym q))))
+    (λ e. rw e (ap (holder (entered taken m kind)) (sym (eqb-true m n e)) ∙ entered-own taken kind m k h o))
+    (λ e. rw e (entered-other taken kind m k h n e))
     (yes-or-no (eqb m n))
+
+-- what may be taken may be taken after an entry of the kind too
+still-open : (taken : List ℕ) (m n kind : ℕ) → kind < 4 → m / 16 < length taken → Open taken kind m → Open taken kind n → Open (entered taken m kind) kind n
+still-open taken m n kind k h o p =
+    ⊎-elim
+    (λ e. inr (entered-at taken m n kind k h o ∙ rw e))
+    (λ e. ⊎-elim (λ q. inl (entered-at taken m n kind k h o ∙ rw e q)) (λ q. inr (entered-at taken m n kind k h o ∙ rw e q)) p)
+    (yes-or-no (eqb m n))
+
+-- each of some numbers has its place in the table and may be taken
+unfoldable AllOpen : List ℕ → ℕ → List ℕ → Type 0
+AllOpen taken kind [] = Unit
+AllOpen taken kind (n ∷ ns) = (n / 16 < length taken) × Open taken kind n × AllOpen taken kind ns
+
+all-still : (taken : List ℕ) (m kind : ℕ) (ns : List ℕ) → kind < 4 → m / 16 < length taken → Open taken kind m → AllOpen taken kind ns → AllOpen (entered taken m kind) kind ns
+unfolding AllOpen
+all-still taken m kind [] k h o a = tt
+all-still taken m kind (n ∷ ns) k h o a = (rw (entered-length taken m kind) (a .0), still-open taken m n kind k h o (a .1), all-still taken m kind ns k h o (a .2))
 
 cond-or : {A : Type 0} (a b : Bool) (x y : A) → cond b x (cond a x y) ≡ cond (a || b) x y
 cond-or true true x y = refl
 cond-or true false x y = refl
 cond-or false b x y = refl
 
-takes-at : (taken : List ℕ) (kind : ℕ) (ns : List ℕ) (n : ℕ) → n < length taken
-    → getD (takes taken kind ns) n 0 ≡ cond (elem n ns) kind (getD taken n 0)
-unfolding takes elem
-takes-at taken kind [] n h = refl
-takes-at taken kind (m ∷ ms) n h =
-    takes-at (set taken m kind) kind ms n (rw (length-set taken m kind) h)
-    ∙ ap (λ (x : ℕ). cond (elem n ms) kind x) (set-at taken m n kind h) ∙ cond-or (eqb m n) (elem n ms) kind (getD taken n 0)
+takes-at : (taken : List ℕ) (kind : ℕ) (ns : List ℕ) (n : ℕ) → kind < 4 → AllOpen taken kind ns → holder (takes taken kind ns) n ≡ cond (elem n ns) kind (holder taken n)
+unfolding takes elem AllOpen
+takes-at taken kind [] n k a = refl
+takes-at taken kind (m ∷ ms) n k a =
+    takes-at (entered taken m kind) kind ms n k (all-still taken m kind ms k (a .0) (a .1) (a .2))
+    ∙ ap (λ (x : ℕ). cond (elem n ms) kind x) (entered-at taken m n kind k (a .0) (a .1)) ∙ cond-or (eqb m n) (elem n ms) kind (holder taken n)
 
 -- the first c of some numbers, place by place
 elem-take : (c n : ℕ) (l : List ℕ) → elem n (take c l) ≡ some (length l) (λ x. ltb x c && eqb (getD l x 0) n)
@@ -99,14 +121,50 @@ elem-take (suc c) n (m ∷ ms) =
     ∙ ap (λ (b : Bool). (b && eqb m n) || some (length ms) (λ x. ltb (suc x) (suc c) && eqb (getD ms x 0) n))
     (sym (lt-ltb 0 (suc c) (zero-lt-suc c)))
 
--- the table after a subscriber took its numbers
-pub claimed-at : (taken : List ℕ) (s : Subscriber) (n : ℕ) → length (s .boxes) ≡ 4 → n < length taken
-    → getD (claimed taken s) n 0 ≡ cond (holds n s) (s .kind) (getD taken n 0)
+-- so are the first c of some numbers, where each of these is
+all-open : (taken : List ℕ) (kind c : ℕ) (l : List ℕ) → ((x : ℕ) → x < length l → x < c → (getD l x 0 / 16 < length taken) × Open taken kind (getD l x 0)) → AllOpen taken kind (take c l)
+unfolding AllOpen
+all-open taken kind zero l f = tt
+all-open taken kind (suc c) [] f = tt
+all-open taken kind (suc c) (n ∷ ns) f = (f 0 (omega arith) (omega arith) .0, f 0 (omega arith) (omega arith) .1, all-open taken kind c ns (λ x h k. f (suc x) (omega (arith, h)) (omega (arith, k))))
+
+-- what a subscriber's numbers are for the table: they have their places in it, and its kind its two bits, if there are any
+pub record Numbered (s : Subscriber) : Type 0 where
+  pub four : length (s .boxes) ≡ 4
+  pub small : (y : ℕ) → y < 4 → ltb y (s .count) ≡ true → box s y < 65536
+  pub low : (s .kind < 4) ⊎ (s .count ≡ 0)
+
+may-open : (taken : List ℕ) (kind n : ℕ) → mayTake taken kind n ≡ true → Open taken kind n
+unfolding mayTake
+may-open taken kind n e =
+    ⊎-elim (λ z. inl (eqb-true (holder taken n) 0 z)) (λ r. inr (eqb-true (holder taken n) kind (and-left (eqb (holder taken n) kind) (not (eqb kind 1)) r)))
+    (or-cases (eqb (holder taken n) 0) (eqb (holder taken n) kind && not (eqb kind 1)) e)
+
+fits-open : (taken : List ℕ) (s : Subscriber) → length taken ≡ 4096 → Numbered s → fits taken s ≡ true → AllOpen taken (s .kind) (take (s .count) (s .boxes))
+unfolding fits
+fits-open taken s long 𝓝 e =
+    all-open taken (s .kind) (s .count) (s .boxes) (λ x h l.
+    let four : x < 4 = rw (𝓝 .four) at h in
+    let counted = lt-ltb x (s .count) l in
+    let number = 𝓝 .small x four counted in
+    let place : box s x / 16 < 4096 = omega (arith, number) in (
+      rw long place,
+      may-open taken (s .kind) (box s x) (imp-at (ltb x (s .count)) (mayTake taken (s .kind) (box s x)) (every-at 4 (λ x. implies (ltb x (s .count)) (mayTake taken (s .kind) (box s x))) e x four) counted),
+    ))
+
+takes-none : (taken : List ℕ) (kind c : ℕ) (l : List ℕ) (n : ℕ) → c ≡ 0 → holder (takes taken kind (take c l)) n ≡ cond (elem n (take c l)) kind (holder taken n)
+unfolding takes elem
+takes-none taken kind zero l n e = refl
+takes-none taken kind (suc c) l n e = absurd (omega (arith, e))
+
+-- the table after a subscriber that fits in took its numbers
+pub claimed-at : (taken : List ℕ) (s : Subscriber) (n : ℕ) → length taken ≡ 4096 → Numbered s → fits taken s ≡ true
+    → holder (claimed taken s) n ≡ cond (holds n s) (s .kind) (holder taken n)
 unfolding claimed holds
-claimed-at taken s n long h =
-    takes-at taken (s .kind) (take (s .count) (s .boxes)) n h
-    ∙ ap (λ (b : Bool). cond b (s .kind) (getD taken n 0))
-    (elem-take (s .count) n (s .boxes) ∙ ap (λ (k : ℕ). some k (λ x. ltb x (s .count) && eqb (box s x) n)) long)
+claimed-at taken s n long 𝓝 e =
+    ⊎-elim (λ k. takes-at taken (s .kind) (take (s .count) (s .boxes)) n k (fits-open taken s long 𝓝 e)) (λ z. takes-none taken (s .kind) (s .count) (s .boxes) n z) (𝓝 .low)
+    ∙ ap (λ (b : Bool). cond b (s .kind) (holder taken n))
+    (elem-take (s .count) n (s .boxes) ∙ ap (λ (k : ℕ). some k (λ x. ltb x (s .count) && eqb (box s x) n)) (𝓝 .four))
 
 pub claimed-length : (taken : List ℕ) (s : Subscriber) → length (claimed taken s) ≡ length taken
 unfolding claimed
@@ -119,20 +177,20 @@ lastKind subs (suc i) n = cond (holds n (at subs i)) (at subs i .kind) (lastKind
 
 -- the table that the first i subscribers leave
 pub record Taken (taken : List ℕ) (subs : List Subscriber) (i : ℕ) : Type 0 where
-  pub long : length taken ≡ 65536
-  pub kinds : (n : ℕ) → n < 65536 → getD taken n 0 ≡ lastKind subs i n
+  pub long : length taken ≡ 4096
+  pub kinds : (n : ℕ) → n < 65536 → holder taken n ≡ lastKind subs i n
 
-pub taken-none : (subs : List Subscriber) → Taken (replicate 65536 0) subs 0
+pub taken-none : (subs : List Subscriber) → Taken (replicate 4096 0) subs 0
 unfolding lastKind
-taken-none subs = record { long = length-replicate {A = ℕ} 65536 0; kinds = λ n h. getD-replicate {A = ℕ} 65536 n 0 0 h }
+taken-none subs = record { long = length-replicate {A = ℕ} 4096 0; kinds = holder-none }
 
-pub taken-next : (taken : List ℕ) (subs : List Subscriber) (i : ℕ) → length (at subs i .boxes) ≡ 4 → Taken taken subs i
+pub taken-next : (taken : List ℕ) (subs : List Subscriber) (i : ℕ) → Numbered (at subs i) → fits taken (at subs i) ≡ true → Taken taken subs i
     → Taken (claimed taken (at subs i)) subs (i + 1)
 unfolding lastKind
-taken-next taken subs i four 𝓣 =
+taken-next taken subs i 𝓝 e 𝓣 =
     rw (add-one i) record {
       long = claimed-length taken (at subs i) ∙ 𝓣 .long;
-      kinds = λ n h. claimed-at taken (at subs i) n four (rw (𝓣 .long) h) ∙ ap (cond (holds n (at subs i)) (at subs i .kind)) (𝓣 .kinds n h);
+      kinds = λ n h. claimed-at taken (at subs i) n (𝓣 .long) 𝓝 e ∙ ap (cond (holds n (at subs i)) (at subs i .kind)) (𝓣 .kinds n h);
     }
 
 -- ---- two subscribers that have a number share it
@@ -229,20 +287,20 @@ agree-at a b e sh =
           (not-true (eqb (a .kind) 1 && eqb (b .kind) 1 && shares a b) (and-left (linesApart a b) (oneKind a b) e))),
     )
 
-may-take-of : (taken : List ℕ) (kind n : ℕ) → (getD taken n 0 ≡ 0) ⊎ ((getD taken n 0 ≡ kind) × (eqb kind 1 ≡ false)) → mayTake taken kind n ≡ true
+may-take-of : (taken : List ℕ) (kind n : ℕ) → (holder taken n ≡ 0) ⊎ ((holder taken n ≡ kind) × (eqb kind 1 ≡ false)) → mayTake taken kind n ≡ true
 unfolding mayTake
-may-take-of taken kind n (inl z) = or-left (eqb (getD taken n 0) kind && not (eqb kind 1)) (eq-eqb (getD taken n 0) 0 z)
-may-take-of taken kind n (inr r) = or-right (eqb (getD taken n 0) 0) (and-make (eq-eqb (getD taken n 0) kind (r .0)) (not-of-false (r .1)))
+may-take-of taken kind n (inl z) = or-left (eqb (holder taken n) kind && not (eqb kind 1)) (eq-eqb (holder taken n) 0 z)
+may-take-of taken kind n (inr r) = or-right (eqb (holder taken n) 0) (and-make (eq-eqb (holder taken n) kind (r .0)) (not-of-false (r .1)))
 
-may-take-at : (taken : List ℕ) (kind n : ℕ) → mayTake taken kind n ≡ true → (getD taken n 0 ≡ 0) ⊎ ((getD taken n 0 ≡ kind) × (eqb kind 1 ≡ false))
+may-take-at : (taken : List ℕ) (kind n : ℕ) → mayTake taken kind n ≡ true → (holder taken n ≡ 0) ⊎ ((holder taken n ≡ kind) × (eqb kind 1 ≡ false))
 unfolding mayTake
 may-take-at taken kind n e =
-    ⊎-elim (λ z. inl (eqb-true (getD taken n 0) 0 z))
+    ⊎-elim (λ z. inl (eqb-true (holder taken n) 0 z))
     (λ r. inr (
-      eqb-true (getD taken n 0) kind (and-left (eqb (getD taken n 0) kind) (not (eqb kind 1)) r),
-      not-true (eqb kind 1) (and-right (eqb (getD taken n 0) kind) (not (eqb kind 1)) r),
+      eqb-true (holder taken n) kind (and-left (eqb (holder taken n) kind) (not (eqb kind 1)) r),
+      not-true (eqb kind 1) (and-right (eqb (holder taken n) kind) (not (eqb kind 1)) r),
     ))
-    (or-cases (eqb (getD taken n 0) 0) (eqb (getD taken n 0) kind && not (eqb kind 1)) e)
+    (or-cases (eqb (holder taken n) 0) (eqb (holder taken n) kind && not (eqb kind 1)) e)
 
 pub fits-is : (taken : List ℕ) (subs : List Subscriber) (i : ℕ) → Taken taken subs i → Among oneKind subs i
     → ((j : ℕ) → j < i → ¬ (at subs j .kind ≡ 0)) → ((y : ℕ) → y < 4 → ltb y (at subs i .count) ≡ true → box (at subs i) y < 65536)
@@ -253,7 +311,7 @@ fits-is taken subs i 𝓣 one known small =
     both-ways (fits taken s) (numbersApart subs i)
     (λ f. every-of i (λ j. linesApart (at subs j) s && oneKind (at subs j) s) (λ j h. apart-of (at subs j) s (λ sh.
     let r = shares-at (at subs j) s sh in
-    let last : getD taken (box s (r .0)) 0 ≡ at subs j .kind =
+    let last : holder taken (box s (r .0)) ≡ at subs j .kind =
     𝓣 .kinds (box s (r .0)) (small (r .0) (r .1) (r .2)) ∙ last-kind subs i (box s (r .0)) j one h (r .3) in
     ⊎-elim (λ z. absurd (known j h (sym last ∙ z))) (λ p. (sym last ∙ p .0, p .1))
     (may-take-at taken (s .kind) (box s (r .0)) (imp-at (ltb (r .0) (s .count)) (mayTake taken (s .kind) (box s (r .0)))

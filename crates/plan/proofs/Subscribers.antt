@@ -1,22 +1,25 @@
 -- The rules of the subscribers one after the other, as the loop of `subscribers_sound` goes through them. Assumes nothing.
 use mathlib.Core.Path.{_≡_, sym, ap, _∙_}
 use mathlib.Core.Bool.{Bool, true, false, _&&_}
+use mathlib.Core.Logic.{_⊎_, inl, inr, ⊎-elim}
 use mathlib.Core.List.{List}
-use Prim.Native.Nat.{ℕ, _-_, _≤_, _<_}
+use Prim.Native.Nat.{ℕ, _+_, _-_, _≤_, _<_}
 use native.Mathlib.Omega.{arith}
-use lib.Dec.{ltb, leb}
-use borrow.Author.Tests.{leb-true}
+use lib.Dec.{ltb, leb, eqb}
+use lib.ListN.{length}
+use borrow.Author.Tests.{leb-true, eqb-true}
 use Rattle.typeset.specs.Sets.{every, implies}
 use Rattle.typeset.proofs.Bools.{and-left, and-right, imp-at}
 use Rattle.typeset.proofs.Below.{every-at}
+use Rattle.typeset.proofs.Laws.{split}
 use Rattle.plan.specs.declared.Types.{Types}
 use Rattle.plan.specs.declared.Subscriber.{Subscriber}
 use Rattle.plan.specs.Parts.{boxNumber, at, box}
 use Rattle.plan.specs.Rules.{kindKnown, addressGiven, countFits, numbersGiven, numbersDiffer, boxesBlank, setsInChoices, reversibleTwice, linesApart, oneKind, ascends}
 use Rattle.plan.specs.Sound.{boxesSound, ownSound, numbersApart, subscriberSound}
-use Rattle.plan.specs.Table.{fits}
+use Rattle.plan.specs.Table.{fits, claimed}
 use Rattle.plan.specs.Steps.{above}
-use Rattle.plan.proofs.Numbers.{Among, Taken, fits-is}
+use Rattle.plan.proofs.Numbers.{Among, Numbered, Taken, taken-next, fits-is}
 
 -- L19 as the code tests it, with k the place before i
 pub above-code : (subs : List Subscriber) (i k : ℕ) {r : Bool} → k ≡ i - 1 → r ≡ above i (at subs k .address) (at subs i .address)
@@ -77,6 +80,20 @@ module _ (t : Types) (s : Subscriber) (e : ownSound t s ≡ true) where
       let number : boxNumber (box s y) ≡ true = imp-at (ltb y (s .count)) (boxNumber (box s y)) (every-at 4 (λ x. implies (ltb x (s .count)) (boxNumber (box s x))) given y h) l in
       omega (arith, leb-true (box s y) 65535 (and-right (leb 1 (box s y)) (leb (box s y) 65535) number))
 
+  -- a mobile, the one kind that needs more than two bits, has no number
+  low-kind : (s .kind < 4) ⊎ (s .count ≡ 0)
+  unfolding kindKnown countFits
+  low-kind =
+      ⊎-elim (λ (l : s .kind < 4). inl l)
+      (λ (l : 4 ≤ s .kind).
+      let most = leb-true (s .kind) 4 (and-right (leb 1 (s .kind)) (leb (s .kind) 4) own-kind) in
+      let four : s .kind ≡ 4 = omega (arith, l, most) in
+      inr (eqb-true (s .count) 0 (rw four at own-count)))
+      (split (s .kind) 4)
+
+  pub numbered : length (s .boxes) ≡ 4 → Numbered s
+  numbered long = record { four = long; small = numbers-small; low = low-kind }
+
 -- ---- those before place i, for the table of numbers
 module _ (t : Types) (subs : List Subscriber) (i : ℕ) (e : every i (subscriberSound t subs) ≡ true) where
   pub one-kind-among : Among oneKind subs i
@@ -92,3 +109,11 @@ module _ (t : Types) (subs : List Subscriber) (i : ℕ) (e : every i (subscriber
   pub fits-code : (taken : List ℕ) → Taken taken subs i → ownSound t (at subs i) ≡ true → fits taken (at subs i) ≡ numbersApart subs i
   fits-code taken 𝓣 own =
       fits-is taken subs i 𝓣 one-kind-among kinds-among (numbers-small t (at subs i) own)
+
+  -- and with it they leave the next table
+  pub table-next : (taken : List ℕ) → length (at subs i .boxes) ≡ 4 → Taken taken subs i → subscriberSound t subs i ≡ true → Taken (claimed taken (at subs i)) subs (i + 1)
+  unfolding subscriberSound
+  table-next taken four 𝓣 here =
+      let own = and-left (ownSound t (at subs i)) (ascends subs i) (and-left (ownSound t (at subs i) && ascends subs i) (numbersApart subs i) here) in
+      taken-next taken subs i (numbered t (at subs i) own four)
+      (fits-code taken 𝓣 own ∙ and-right (ownSound t (at subs i) && ascends subs i) (numbersApart subs i) here) 𝓣

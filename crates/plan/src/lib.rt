@@ -1,7 +1,7 @@
 // The plan of a switchboard: which box types there are, how they are ordered, and who subscribes to what.
 ghost use mathlib.Core.Path.{_≡_};
 ghost use mathlib.Core.Bool.{_&&_, cond};
-ghost use Prim.Native.Nat.{_-_, _<_, _≤_, min};
+ghost use Prim.Native.Nat.{_-_, _*_, _%_, _<_, _≤_, min};
 ghost use lib.Dec.{leb, eqb};
 ghost use lib.ListN.{length, getD, set, replicate};
 ghost use Rattle.refusal.specs.declared.Place.the-variants.{Nowhere, At};
@@ -10,7 +10,7 @@ ghost use Rattle.plan.specs.Parts.{legal, given, boxNumber};
 ghost use Rattle.plan.specs.Rules.{typesExist, reversibleInBoth, boundInBoth, kindKnown, addressGiven, countFits, setsInChoices, reversibleTwice, blank, restBlank};
 ghost use Rattle.plan.specs.Sound.{typesSound, sourceSound, targetSound, boxesSound, ownSound, subscriberSound, sound, verdict, numberSaid, placeSaid};
 ghost use Rattle.plan.specs.Find.{lookup};
-ghost use Rattle.plan.specs.Table.{mayTake, fits, claimed};
+ghost use Rattle.plan.specs.Table.{holder, entered, mayTake, fits, claimed};
 ghost use Rattle.plan.specs.Steps.{differsFrom, differsAt, boxSound, above, fitsAt};
 use refusal::Refusal;
 
@@ -32,11 +32,11 @@ pub struct Types {
 // An address of the plan: its kind (1 line, 2 trunk, 3 resource, 4 mobile), what it subscribes to in each region, and its box numbers,
 // of which the first count places are in use.
 pub struct Subscriber {
-    pub kind: u8,
     pub address: u32,
     pub source: u32,
     pub target: u32,
     pub boxes: [u16; 4],
+    pub kind: u8,
     pub count: u8,
 }
 
@@ -303,10 +303,25 @@ pub fn own_sound(t: Types, s: Subscriber) -> bool
 
 // ---- the table of the box numbers that are taken
 
-fn may_take(taken: &[u8; 65536], kind: u8, n: u16) -> bool
+// Where the two bits of a number begin in its word.
+fn bits_of(n: u16) -> u32
+    ensures { λ r. ⌜ (r ≡ n % 16 * 2) × (r ≤ 30) ⌝ }
+{
+    (n % 16) as u32 * 2
+}
+
+// The kind that has the number n.
+fn holder(taken: &[u32; 4096], n: u16) -> u8
+    ensures { λ r. ⌜ r ≡ holder (now (taken .entry)) n ⌝ }
+{
+    let word = taken[n as usize / 16];
+    ((word >> bits_of(n)) % 4) as u8
+}
+
+fn may_take(taken: &[u32; 4096], kind: u8, n: u16) -> bool
     ensures { λ r. ⌜ r ≡ mayTake (now (taken .entry)) kind n ⌝ }
 {
-    let holder = taken[n as usize];
+    let holder = holder(taken, n);
     if holder == 0 {
         return true;
     }
@@ -316,7 +331,7 @@ fn may_take(taken: &[u8; 65536], kind: u8, n: u16) -> bool
     holder == kind
 }
 
-fn fits_at(taken: &[u8; 65536], s: Subscriber, x: usize) -> bool
+fn fits_at(taken: &[u32; 4096], s: Subscriber, x: usize) -> bool
     requires { ⌜ x < 4 ⌝ }
     ensures { λ r. ⌜ r ≡ fitsAt (now (taken .entry)) s x ⌝ }
 {
@@ -329,7 +344,7 @@ fn fits_at(taken: &[u8; 65536], s: Subscriber, x: usize) -> bool
 }
 
 // Whether a subscriber may have its box numbers beside those that are taken.
-pub fn fits(taken: &[u8; 65536], s: Subscriber) -> bool
+pub fn fits(taken: &[u32; 4096], s: Subscriber) -> bool
     ensures { λ r. ⌜ r ≡ fits (now (taken .entry)) s ⌝ }
 {
     for x in 0usize..4usize {
@@ -340,14 +355,17 @@ pub fn fits(taken: &[u8; 65536], s: Subscriber) -> bool
     true
 }
 
-fn take_number(taken: &mut [u8; 65536], kind: u8, n: u16)
-    ensures { λ r. ⌜ now (taken .exit) ≡ set (now (taken .entry)) n kind ⌝ }
+// A kind enters itself at a number, where nobody is, or only its own kind.
+fn take_number(taken: &mut [u32; 4096], kind: u8, n: u16)
+    ensures { λ r. ⌜ now (taken .exit) ≡ entered (now (taken .entry)) n kind ⌝ }
 {
-    taken[n as usize] = kind;
+    let i = n as usize / 16;
+    let word = taken[i];
+    taken[i] = typeset::join(word, (kind as u32) << bits_of(n));
 }
 
 // The subscriber takes its box numbers.
-pub fn claim(taken: &mut [u8; 65536], s: Subscriber)
+pub fn claim(taken: &mut [u32; 4096], s: Subscriber)
     ensures { λ r. ⌜ now (taken .exit) ≡ claimed (now (taken .entry)) s ⌝ }
 {
     let boxes = s.boxes;
@@ -375,7 +393,7 @@ fn place_before(i: usize) -> usize
 }
 
 // The subscriber takes its box numbers, for which it has four places.
-fn enter(taken: &mut [u8; 65536], s: Subscriber)
+fn enter(taken: &mut [u32; 4096], s: Subscriber)
     ensures { λ r. ⌜ (now (taken .exit) ≡ claimed (now (taken .entry)) s) × (length (s .boxes) ≡ 4) ⌝ }
 {
     claim(taken, s);
@@ -386,9 +404,9 @@ fn all_sound(
     t: Types,
     subscribers: [Subscriber; 256],
     count: usize,
-    taken: &mut [u8; 65536],
+    taken: &mut [u32; 4096],
 ) -> bool
-    requires { ⌜ (count ≤ 256) × (now taken ≡ replicate 65536 0) ⌝ }
+    requires { ⌜ (count ≤ 256) × (now taken ≡ replicate 4096 0) ⌝ }
     ensures { λ r. ⌜ r ≡ every count (subscriberSound t subscribers) ⌝ }
 {
     for i in 0usize..count {
@@ -414,7 +432,7 @@ fn subscribers_sound(t: Types, subscribers: [Subscriber; 256], count: usize) -> 
     requires { ⌜ count ≤ 256 ⌝ }
     ensures { λ r. ⌜ r ≡ every count (subscriberSound t subscribers) ⌝ }
 {
-    let mut taken = [0u8; 65536];
+    let mut taken = [0u32; 4096];
     all_sound(t, subscribers, count, &mut taken)
 }
 

@@ -9,14 +9,15 @@ use lib.ListN.{length, take, drop, length-append}
 use borrow.Author.Tests.{leb-true}
 use Rattle.refusal.specs.declared.Refusal.{Refusal}
 use Rattle.plan.specs.declared.Plan.{Plan}
-use Rattle.plan.specs.declared.Verdict.the-variants.{Refused}
+use Rattle.plan.specs.declared.Verdict.{Verdict}
+use Rattle.plan.specs.declared.Verdict.the-variants.{Sound, Refused}
 use Rattle.plan.specs.Sound.{sound}
 use Rattle.planbytes.specs.Format.{bytesOf}
 use Rattle.planread.specs.declared.Reading.{Reading}
 use Rattle.planread.specs.Reading.{blankPlan, accepted, refused, readOf, readFrom, verdictAt, header}
 use Rattle.planwrite.specs.declared.Written.{Written}
 use Rattle.planwrite.specs.declared.Written.the-variants as written-variants
-use Rattle.planwrite.specs.Writing.{answerOf, written, roomAfter}
+use Rattle.planwrite.specs.Writing.{answerOf, written, writtenBy, roomAfter, roomAfterBy}
 use Rattle.planfile.specs.Typed.{Typed}
 use Rattle.planback.specs.Back.{comesBack}
 use Rattle.planfile.proofs.Theorems.{write-then-read}
@@ -36,12 +37,12 @@ answer-bytes true true m n e = (refl, refl, ap bytesIn e)
 
 -- a plan of which n bytes were written is sound, and they are its file
 wrote : (p : Plan) (room : List ℕ) (n : ℕ) → written p room ≡ written-variants.Bytes n → (sound p ≡ true) × (leb (length (bytesOf p)) (length room) ≡ true) × (length (bytesOf p) ≡ n)
-unfolding written
+unfolding writtenBy
 wrote p room n e = answer-bytes (sound p) (leb (length (bytesOf p)) (length room)) (length (bytesOf p)) n e
 
 module _ (p : Plan) (room : List ℕ) {w : Written} (e : w ≡ written p room) where
   pub back-room : {n : ℕ} {a : List ℕ} → w ≡ written-variants.Bytes n → a ≡ roomAfter p room → n ≤ length a
-  unfolding roomAfter
+  unfolding roomAfterBy
   back-room {n} f g =
       let is = wrote p room n (sym e ∙ f) in
       rw (g, is .0, is .1, length-append (bytesOf p) (drop (length (bytesOf p)) room)) (omega (arith, is .2))
@@ -61,3 +62,7 @@ nothing-read = refl
 
 pub beside-refusal : (r : Refusal) {x : Reading} → x ≡ readOf [] → record { answer = Refused r; plan = x .plan } ≡ refused r
 beside-refusal r {x} e = let blank : x .plan ≡ blankPlan = ap (λ (y : Reading). y .plan) e ∙ nothing-read in λ i. record { answer = Refused r; plan = blank i }
+
+-- a reading whose answer is sound is of its plan
+pub as-accepted : (r : Reading) → r .answer ≡ Sound → r ≡ accepted (r .plan)
+as-accepted r e = ap (λ (v : Verdict). record { answer = v; plan = r .plan }) e

@@ -1,8 +1,11 @@
 // The theorems of the plan file, brought to any plan that a program holds: its numbers fit their fields and its arrays have their lengths, and written and read again it is
 // the same plan.
 ghost use mathlib.Core.Path.{_≡_};
+ghost use mathlib.Core.Bool.{true};
 ghost use Prim.Native.Nat.{_^_, _<_, _≤_};
 ghost use lib.ListN.{length, take};
+ghost use Rattle.plan.specs.declared.Verdict.the-variants.{Sound};
+ghost use Rattle.plan.specs.Sound.{sound};
 ghost use Rattle.planbytes.specs.Numbers.{Below};
 ghost use Rattle.planfile.specs.Typed.{TypedSubscriber, AllTyped, Typed};
 ghost use Rattle.planread.specs.Reading.{readOf, refused};
@@ -79,6 +82,23 @@ pub fn held(plan: Plan)
     rows(source);
     rows(target);
     subscribers(all);
+}
+
+// Any bytes that a program holds. The walk only shows it; compiled, nothing is left of it.
+fn bytes(file: &[u8])
+    ensures { λ r. ⌜ Below 256 (now (file .entry)) ⌝ }
+{
+    for i in 0usize..file.len() {
+        narrow(file[i]);
+    }
+}
+
+// Any bytes read as a plan file; and what is accepted is sound, so that nobody needs to test it again.
+pub fn read(file: &[u8]) -> Reading
+    ensures { λ r. ⌜ (r ≡ readOf (now (file .entry))) × (r .answer ≡ Sound → sound (r .plan) ≡ true) ⌝ }
+{
+    bytes(file);
+    planread::read(file)
 }
 
 // The first n bytes of a file, read.

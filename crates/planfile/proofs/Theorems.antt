@@ -16,7 +16,7 @@ use Rattle.planbytes.specs.Format.{field, subscriberBody, subscriberFields, byt
 use Rattle.planbytes.proofs.Lengths.{subscriber-size}
 use Rattle.planread.specs.Reading.{accepted, readOf}
 use Rattle.planwrite.specs.declared.Written.the-variants.{Bytes}
-use Rattle.planwrite.specs.Writing.{written, roomAfter}
+use Rattle.planwrite.specs.Writing.{written, writtenBy, roomAfter, roomAfterBy}
 use Rattle.planwrite.proofs.Files.{file-length}
 use Rattle.planfile.specs.Typed.{AllTyped, Typed}
 use Rattle.planfile.proofs.States.{typed-take, used-length}
@@ -50,11 +50,11 @@ one-plan p q 𝓣 𝓤 𝓢 𝓡 e =
 -- ---- of what the functions leave: what writing leaves in the room is read as the plan that was written; and what was read is written as the bytes that were read
 module _ (p : Plan) (𝓢 : sound p ≡ true) (room : List ℕ) (fits : length (bytesOf p) ≤ length room) where
   pub write-answers : written p room ≡ Bytes (length (bytesOf p))
-  unfolding written
+  unfolding writtenBy
   write-answers = rw (𝓢, le-leb (length (bytesOf p)) (length room) fits)
 
   pub write-leaves : take (length (bytesOf p)) (roomAfter p room) ≡ bytesOf p
-  unfolding roomAfter
+  unfolding roomAfterBy
   write-leaves = rw (𝓢, le-leb (length (bytesOf p)) (length room) fits) (take-append-seam (bytesOf p) (drop (length (bytesOf p)) room))
 
   pub write-then-read : Typed p → readOf (take (length (bytesOf p)) (roomAfter p room)) ≡ accepted p

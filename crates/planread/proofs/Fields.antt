@@ -1,9 +1,9 @@
 -- The parts of a field at a place of the file. Assumes nothing.
-use mathlib.Core.Path.{_≡_, sym, ap, _∙_}
-use mathlib.Core.List.{List, _++_}
-use Prim.Native.Nat.{ℕ, _+_, _-_, _≤_, _<_}
-use mathlib.Core.Bool.{true, false, _&&_}
-use lib.Dec.{eqb, leb}
+use mathlib.Core.Path.{_≡_, refl, sym, ap, ap₂, _∙_}
+use mathlib.Core.List.{List, [], _∷_, _++_}
+use Prim.Native.Nat.{ℕ, zero, suc, _+_, _-_, _*_, _≤_, _<_}
+use mathlib.Core.Bool.{true, false, _&&_, cond}
+use lib.Dec.{eqb, leb, ltb}
 use borrow.Author.Tests.{lt-ltb, le-ltb}
 use native.Mathlib.Omega.{arith}
 use lib.ListN.{length, getD, take, drop, replicate, length-drop}
@@ -91,3 +91,33 @@ module _ (stage count at : ℕ) (bs : List ℕ) where
           unfolding header
           header-whole h =
               rw (length-drop at bs, le-ltb (length bs - at) 3 whole, tag-at bs at inside, fine, few, length-at bs at, ← long, ever, le-ltb (length bs - at) (3 + n) h)
+
+-- ---- four box numbers, one by one
+
+four : (l : List ℕ) (k : ℕ) → k ≤ 4
+    → cond (ltb 0 k) (number (take 2 l)) 0 ∷ cond (ltb 1 k) (number (take 2 (drop 2 l))) 0 ∷ cond (ltb 2 k) (number (take 2 (drop 2 (drop 2 l)))) 0
+    ∷ cond (ltb 3 k) (number (take 2 (drop 2 (drop 2 (drop 2 l))))) 0 ∷ []
+    ≡ numbers 2 k l ++ replicate (4 - k) 0
+unfolding numbers
+four l zero h = refl
+four l (suc zero) h = refl
+four l (suc (suc zero)) h = refl
+four l (suc (suc (suc zero))) h = refl
+four l (suc (suc (suc (suc zero)))) h = refl
+four l (suc (suc (suc (suc (suc k))))) h = absurd (omega (arith, h))
+
+pub boxes-are : (bs : List ℕ) (at k : ℕ) → k ≤ 4 → {a b c d : ℕ} → a ≡ cond (ltb 0 k) (number (take 2 (drop (at + 2 * 0) bs))) 0
+    → b ≡ cond (ltb 1 k) (number (take 2 (drop (at + 2 * 1) bs))) 0 → c ≡ cond (ltb 2 k) (number (take 2 (drop (at + 2 * 2) bs))) 0
+    → d ≡ cond (ltb 3 k) (number (take 2 (drop (at + 2 * 3) bs))) 0 → a ∷ b ∷ c ∷ d ∷ [] ≡ numbers 2 k (drop at bs) ++ replicate (4 - k) 0
+boxes-are bs at k h {a} {b} {c} {d} p q r s =
+    let first : drop (at + 2 * 0) bs ≡ drop at bs = ap (λ (n : ℕ). drop n bs) (let same : at + 2 * 0 ≡ at = omega arith in same) in
+    let second : drop (at + 2 * 1) bs ≡ drop 2 (drop at bs) = sym (drop-drop 2 at bs) in
+    let third : drop (at + 2 * 2) bs ≡ drop 2 (drop 2 (drop at bs)) =
+    ap (λ (n : ℕ). drop n bs) (let same : at + 2 * 2 ≡ at + 2 * 1 + 2 = omega arith in same) ∙ sym (drop-drop 2 (at + 2 * 1) bs) ∙ ap (drop 2) second in
+    let fourth : drop (at + 2 * 3) bs ≡ drop 2 (drop 2 (drop 2 (drop at bs))) =
+    ap (λ (n : ℕ). drop n bs) (let same : at + 2 * 3 ≡ at + 2 * 2 + 2 = omega arith in same) ∙ sym (drop-drop 2 (at + 2 * 2) bs) ∙ ap (drop 2) third in
+    ap₂ (λ (x : ℕ) (y : List ℕ). x ∷ y) (p ∙ ap (λ (n : List ℕ). cond (ltb 0 k) (number (take 2 n)) 0) first)
+    (ap₂ (λ (x : ℕ) (y : List ℕ). x ∷ y) (q ∙ ap (λ (n : List ℕ). cond (ltb 1 k) (number (take 2 n)) 0) second)
+    (ap₂ (λ (x : ℕ) (y : List ℕ). x ∷ y) (r ∙ ap (λ (n : List ℕ). cond (ltb 2 k) (number (take 2 n)) 0) third)
+    (ap (λ (x : ℕ). x ∷ []) (s ∙ ap (λ (n : List ℕ). cond (ltb 3 k) (number (take 2 n)) 0) fourth))))
+    ∙ four (drop at bs) k h

@@ -12,7 +12,8 @@ use Rattle.plan.specs.declared.Types.{Types}
 use Rattle.plan.specs.declared.Subscriber.{Subscriber}
 use Rattle.plan.specs.Sound.{subscriberSound}
 use Rattle.plan.specs.Table.{claimed}
-use Rattle.plan.proofs.Numbers.{Taken, taken-none, taken-next}
+use Rattle.plan.proofs.Numbers.{Taken, taken-none}
+use Rattle.plan.proofs.Subscribers.{table-next}
 use Rattle.planread.specs.Reading.{noSubscriber, planOf, readFrom}
 use Rattle.planread.proofs.Places.{lastAddress, every-alike, taken-alike, set-alike, set-there}
 
@@ -28,7 +29,7 @@ pub record Going (bs : List ℕ) (t : Types) (source target : List ℕ) (taken :
       ≡ readFrom 257 4 (planOf t source target (replicate 256 noSubscriber) 0) 289 (drop 289 bs)
 
 module _ (bs : List ℕ) (t : Types) (source target : List ℕ) where
-  pub going-none : 289 ≤ length bs → {taken : List ℕ} → taken ≡ replicate 65536 0 → Going bs t source target taken (replicate 256 noSubscriber) 0 0 289
+  pub going-none : 289 ≤ length bs → {taken : List ℕ} → taken ≡ replicate 4096 0 → Going bs t source target taken (replicate 256 noSubscriber) 0 0 289
   unfolding lastAddress
   going-none h e =
       record {
@@ -52,12 +53,13 @@ module _ (bs : List ℕ) (t : Types) (source target : List ℕ) where
       let below : count < length subs = rw (𝓖 .places) room in
       let there = set-there subs count s below in
       let alike = set-alike subs count s in
+      let before : every count (subscriberSound t (set subs count s)) ≡ true = sym (every-alike t subs (set subs count s) count alike) ∙ 𝓖 .kept in
       record {
         few = omega arith;
         inside = fits;
         places = length-set subs count s ∙ 𝓖 .places;
         last-is = rw (add-one count) (ap (λ (z : Subscriber). z .address) (sym there));
-        kept = every-more count (subscriberSound t (set subs count s)) (sym (every-alike t subs (set subs count s) count alike) ∙ 𝓖 .kept) own;
-        table = rw e (rw there at (taken-next taken (set subs count s) count (rw there four) (taken-alike taken subs (set subs count s) count alike (𝓖 .table))));
+        kept = every-more count (subscriberSound t (set subs count s)) before own;
+        table = rw e (rw there at (table-next t (set subs count s) count before taken (rw there four) (taken-alike taken subs (set subs count s) count alike (𝓖 .table)) own));
         result = sym step ∙ 𝓖 .result;
       }

@@ -75,16 +75,24 @@ fn order_at(bytes: &[u8], at: usize) -> [u32; 32]
     rows
 }
 
-// A subscriber's box numbers, and zero in the places past them.
+// A subscriber's box number at place x, or zero past its count.
+fn box_at(bytes: &[u8], at: usize, count: usize, x: usize) -> u16
+    requires { ⌜ (count ≤ 4) × (x < 4) × (at + 2 * count ≤ length (now bytes)) ⌝ }
+    ensures { λ r. ⌜ r ≡ cond (ltb x count) (number (take 2 (drop (at + 2 * x) (now (bytes .entry))))) 0 ⌝ }
+{
+    if x < count { two(bytes, at + 2 * x) } else { 0 }
+}
+
+// A subscriber's box numbers, and zero in the places past them. The four are had one by one: an array that is stored to place by place and then copied whole is slow.
 fn boxes_at(bytes: &[u8], at: usize, count: usize) -> [u16; 4]
     requires { ⌜ (count ≤ 4) × (at + 2 * count ≤ length (now bytes)) ⌝ }
     ensures { λ r. ⌜ r ≡ numbers 2 count (drop at (now (bytes .entry))) ++ replicate (4 - count) 0 ⌝ }
 {
-    let mut boxes = [0u16; 4];
-    for x in 0usize..count {
-        boxes[x] = two(bytes, at + 2 * x);
-    }
-    boxes
+    let first = box_at(bytes, at, count, 0);
+    let second = box_at(bytes, at, count, 1);
+    let third = box_at(bytes, at, count, 2);
+    let fourth = box_at(bytes, at, count, 3);
+    [first, second, third, fourth]
 }
 
 // A subscriber that has this many box numbers.
@@ -262,7 +270,7 @@ fn finish(
 }
 
 // Whether a subscriber keeps its rules beside those before it: an address above the last one's, and box numbers that it may have.
-fn beside(s: Subscriber, last: u32, taken: &[u8; 65536]) -> bool
+fn beside(s: Subscriber, last: u32, taken: &[u32; 4096]) -> bool
     ensures { λ r. ⌜ r ≡ (ltb last (s .address) && fits (now (taken .entry)) s) ⌝ }
 {
     if s.address <= last {
@@ -272,7 +280,7 @@ fn beside(s: Subscriber, last: u32, taken: &[u8; 65536]) -> bool
 }
 
 // Whether a subscriber keeps its own rules, its number of boxes among them, and those beside the ones before it.
-fn keeps(types: Types, s: Subscriber, last: u32, taken: &[u8; 65536]) -> bool
+fn keeps(types: Types, s: Subscriber, last: u32, taken: &[u32; 4096]) -> bool
     ensures { λ r. ⌜ r ≡ (ownSound types s && ltb last (s .address) && fits (now (taken .entry)) s) ⌝ }
 {
     if plan::own_sound(types, s) {
@@ -288,9 +296,9 @@ fn read_subscribers(
     types: Types,
     source: [u32; 32],
     target: [u32; 32],
-    taken: &mut [u8; 65536],
+    taken: &mut [u32; 4096],
 ) -> Reading
-    requires { ⌜ (289 ≤ length (now bytes)) × (now taken ≡ replicate 65536 0) ⌝ }
+    requires { ⌜ (289 ≤ length (now bytes)) × (now taken ≡ replicate 4096 0) ⌝ }
     ensures { λ r. ⌜ r ≡ readFrom 257 4 (planOf types source target (replicate 256 noSubscriber) 0) 289 (drop 289 (now (bytes .entry))) ⌝ }
 {
     let empty = no_subscriber();
@@ -347,7 +355,7 @@ fn read_target(bytes: &[u8], types: Types, source: [u32; 32]) -> Reading
             if !due(4, types, source, target) {
                 return refused(Refusal::RuleBroken(158));
             }
-            let mut taken = [0u8; 65536];
+            let mut taken = [0u32; 4096];
             read_subscribers(bytes, types, source, target, &mut taken)
         }
     }

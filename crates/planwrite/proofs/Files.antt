@@ -1,13 +1,14 @@
 -- A file as a whole: how many bytes it has, and what writing it leaves in the room. Assumes nothing.
 use mathlib.Core.Path.{_≡_, refl, sym, ap, _∙_}
 use mathlib.Core.Bool.{Bool, true, false, _&&_, cond}
+use mathlib.Core.Logic.{_⊎_, ⊎-elim}
 use mathlib.Core.List.{List, _++_}
-use Prim.Native.Nat.{ℕ, _+_, _≤_, _<_}
+use Prim.Native.Nat.{ℕ, _+_, _≤_, _<_, min}
 use native.Mathlib.Nat.{zero-add}
 use native.Mathlib.Omega.{arith}
 use lib.Dec.{leb}
 use lib.ListN.{length, take, length-append}
-use lib.Seq.{sets, sets-eq}
+use lib.Seq.{sets, sets-eq, take-all}
 use borrow.Author.Tests.{le-leb, lt-leb}
 use Rattle.refusal.specs.declared.Refusal.the-variants.{RuleBroken, RoomTooShort}
 use Rattle.plan.specs.declared.Plan.{Plan}
@@ -17,9 +18,10 @@ use Rattle.planwrite.specs.declared.Written.{Written}
 use Rattle.planwrite.specs.declared.Written.the-variants.{Bytes, Refused}
 use Rattle.planbytes.specs.Numbers.{high}
 use Rattle.planbytes.specs.Format.{field, headFields, subscriberFields, endField, bytesOf}
-use Rattle.planwrite.specs.Writing.{answerOf, written, roomAfter, numberWritten, placeWritten}
+use Rattle.planwrite.specs.Writing.{answerOf, writtenBy, roomAfterBy, written, roomAfter, numberWritten, placeWritten}
 use Rattle.planwrite.proofs.Puts.{puts-then}
 use Rattle.planbytes.proofs.Lengths.{head-length}
+use Rattle.typeset.proofs.Laws.{split}
 
 pub end-is : endField ≡ high 1 127 ++ high 2 0
 unfolding endField field high
@@ -38,11 +40,11 @@ answer-place true false n = refl
 answer-place true true n = refl
 
 pub write-number : (p : Plan) (room : List ℕ) → numberWritten (written p room) ≡ cond (sound p) (cond (leb (length (bytesOf p)) (length room)) 0 25) 23
-unfolding written
+unfolding writtenBy
 write-number p room = answer-number (sound p) (leb (length (bytesOf p)) (length room)) (length (bytesOf p))
 
 pub write-place : (p : Plan) (room : List ℕ) → placeWritten (written p room) ≡ cond (sound p && leb (length (bytesOf p)) (length room)) Nowhere (At 0)
-unfolding written
+unfolding writtenBy
 write-place p room = answer-place (sound p) (leb (length (bytesOf p)) (length room)) (length (bytesOf p))
 
 -- what is answered and left, with its number and its place
@@ -52,6 +54,13 @@ pub said : (p : Plan) (room : List ℕ) {w : Written} {a : List ℕ} → (w ≡ 
 said p room e = (e, (ap numberWritten (e .0) ∙ write-number p room, ap placeWritten (e .0) ∙ write-place p room))
 
 -- ---- the file
+
+-- of 256 places no more are taken than there are
+pub no-more : {A : Type 0} (n : ℕ) (l : List A) → length l ≡ 256 → take (min n 256) l ≡ take n l
+no-more n l e =
+    ⊎-elim (λ (h : n < 256). let is : min n 256 ≡ n = omega (arith, h) in ap (λ (k : ℕ). take k l) is)
+    (λ (h : 256 ≤ n). take-all (min n 256) l (omega (arith, e, h)) ∙ sym (take-all n l (omega (arith, e, h))))
+    (split n 256)
 
 module _ (p : Plan) (rows : length (p .«source_order») ≡ 32) (columns : length (p .«target_order») ≡ 32) where
   head-is : length (headFields (p .types) (p .«source_order») (p .«target_order»)) ≡ 289
@@ -69,14 +78,14 @@ module _ (p : Plan) (rows : length (p .«source_order») ≡ 32) (columns : leng
       length-append (headFields (p .types) (p .«source_order») (p .«target_order») ++ subscriberFields (take (p .count) (p .subscribers))) endField
       ∙ rw before-end (omega arith)
 
-  module _ (room : List ℕ) where
-    pub write-broken : sound p ≡ false → (Refused (RuleBroken 0) ≡ written p room) × (room ≡ roomAfter p room)
-    unfolding written roomAfter
+  module _ (kept : Bool) (room : List ℕ) where
+    pub write-broken : kept ≡ false → (Refused (RuleBroken 0) ≡ writtenBy kept p room) × (room ≡ roomAfterBy kept p room)
+    unfolding writtenBy roomAfterBy
     write-broken e = (rw e, rw e)
 
-    pub write-short : {a : List ℕ} → a ≡ room → sound p ≡ true → length room < 292 + length (subscriberFields (take (p .count) (p .subscribers)))
-        → (Refused (RoomTooShort 0) ≡ written p room) × (a ≡ roomAfter p room)
-    unfolding written roomAfter
+    pub write-short : {a : List ℕ} → a ≡ room → kept ≡ true → length room < 292 + length (subscriberFields (take (p .count) (p .subscribers)))
+        → (Refused (RoomTooShort 0) ≡ writtenBy kept p room) × (a ≡ roomAfterBy kept p room)
+    unfolding writtenBy roomAfterBy
     write-short same e h =
         let short : leb (length (bytesOf p)) (length room) ≡ false = lt-leb (length (bytesOf p)) (length room) (rw file-length h) in
         (rw (e, short), same ∙ rw (e, short))
@@ -92,12 +101,12 @@ module _ (p : Plan) (rows : length (p .«source_order») ≡ 32) (columns : leng
         (puts-then room (headFields (p .types) (p .«source_order») (p .«target_order»)) (subscriberFields (take (p .count) (p .subscribers))) 0 289 289 x y head-is refl)
         (z ∙ rw end-is) before-end (sym (zero-add (289 + length (subscriberFields (take (p .count) (p .subscribers))))))
 
-    pub write-done : {n : ℕ} {same a b c : List ℕ} → same ≡ room → sound p ≡ true → n ≡ 292 + length (subscriberFields (take (p .count) (p .subscribers))) → n ≤ length same
+    pub write-done : {n : ℕ} {same a b c : List ℕ} → same ≡ room → kept ≡ true → n ≡ 292 + length (subscriberFields (take (p .count) (p .subscribers))) → n ≤ length same
         → a ≡ sets same 0 (headFields (p .types) (p .«source_order») (p .«target_order»))
         → b ≡ sets a 289 (subscriberFields (take (p .count) (p .subscribers)))
         → c ≡ sets b (289 + length (subscriberFields (take (p .count) (p .subscribers)))) (high 1 127 ++ high 2 0)
-        → (Bytes n ≡ written p room) × (c ≡ roomAfter p room)
-    unfolding written roomAfter
+        → (Bytes n ≡ writtenBy kept p room) × (c ≡ roomAfterBy kept p room)
+    unfolding writtenBy roomAfterBy
     write-done {n} {same} {a} {b} {c} s e size h x y z =
         let is : length (bytesOf p) ≡ n = file-length ∙ sym size in
         let fits : length (bytesOf p) ≤ length room = rw (is, ← s) h in

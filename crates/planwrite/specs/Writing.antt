@@ -26,11 +26,18 @@ roomOf false fits file room = room
 roomOf true false file room = room
 roomOf true true file room = file ++ drop (length file) room
 
-unfoldable pub written : Plan → List ℕ → Written
-written p room = answerOf (sound p) (leb (length (bytesOf p)) (length room)) (length (bytesOf p))
+-- by the verdict on the plan: whether it is sound
+unfoldable pub writtenBy : Bool → Plan → List ℕ → Written
+writtenBy kept p room = answerOf kept (leb (length (bytesOf p)) (length room)) (length (bytesOf p))
 
-unfoldable pub roomAfter : Plan → List ℕ → List ℕ
-roomAfter p room = roomOf (sound p) (leb (length (bytesOf p)) (length room)) (bytesOf p) room
+unfoldable pub roomAfterBy : Bool → Plan → List ℕ → List ℕ
+roomAfterBy kept p room = roomOf kept (leb (length (bytesOf p)) (length room)) (bytesOf p) room
+
+abbrev pub written : Plan → List ℕ → Written
+written p room = writtenBy (sound p) p room
+
+abbrev pub roomAfter : Plan → List ℕ → List ℕ
+roomAfter p room = roomAfterBy (sound p) p room
 
 -- the answer in document 01's numbers: 0 for a file that was written, else the number of the refusal; and the refusal's place
 abbrev pub numberWritten : Written → ℕ

@@ -2,7 +2,7 @@
 ghost use mathlib.Core.Path.{_≡_};
 ghost use mathlib.Core.Bool.{_&&_, cond};
 ghost use mathlib.Core.List.{[], _∷_, _++_};
-ghost use Prim.Native.Nat.{_+_, _*_, _≤_, _<_};
+ghost use Prim.Native.Nat.{_+_, _*_, _≤_, _<_, min};
 ghost use lib.Dec.{leb};
 ghost use lib.ListN.{length, take};
 ghost use lib.Seq.{sets};
@@ -10,7 +10,7 @@ ghost use Rattle.refusal.specs.declared.Place.the-variants.{Nowhere, At};
 ghost use Rattle.plan.specs.Sound.{sound};
 ghost use Rattle.planbytes.specs.Numbers.{high, row};
 ghost use Rattle.planbytes.specs.Format.{field, versionBody, typesBody, orderBody, subscriberBody, headFields, subscriberFields, bytesOf};
-ghost use Rattle.planwrite.specs.Writing.{written, roomAfter, numberWritten, placeWritten};
+ghost use Rattle.planwrite.specs.Writing.{writtenBy, roomAfterBy, written, roomAfter, numberWritten, placeWritten};
 use plan::Plan;
 use plan::Subscriber;
 use plan::Types;
@@ -178,7 +178,7 @@ fn put_subscribers(
 ) -> usize
     requires { ⌜ (count ≤ 256) × (cond put (289 + length (subscriberFields (take count subscribers))) 0 ≤ length (now room)) ⌝ }
     ensures { λ r. ⌜ (now (room .exit) ≡ cond put (sets (now (room .entry)) 289 (subscriberFields (take count subscribers))) (now (room .entry)))
-        × (r ≡ 289 + length (subscriberFields (take count subscribers))) × (r ≤ 6433) ⌝ }
+        × (r ≡ 289 + length (subscriberFields (take count subscribers))) × (r ≤ 6433) × (length subscribers ≡ 256) ⌝ }
 {
     let mut at = 289usize;
     let mut i = 0usize;
@@ -192,18 +192,23 @@ fn put_subscribers(
     at
 }
 
-// A sound plan's file into the room, if it fits in: how many bytes it has. The bytes past it stay.
-pub fn write(plan: Plan, room: &mut [u8]) -> Written
-    ensures { λ r. ⌜ (r ≡ written plan (now (room .entry))) × (now (room .exit) ≡ roomAfter plan (now (room .entry))) ⌝ }
-    ensures numbered { λ r. ⌜ (numberWritten r ≡ cond (sound plan) (cond (leb (length (bytesOf plan)) (length (now (room .entry)))) 0 25) 23)
-        × (placeWritten r ≡ cond (sound plan && leb (length (bytesOf plan)) (length (now (room .entry)))) Nowhere (At 0)) ⌝ }
+// How many places of a plan with this count there are to write: no more than it has.
+fn places(count: u16) -> usize
+    ensures { λ r. ⌜ (r ≡ min count 256) × (r ≤ 256) ⌝ }
+{
+    if count < 256 { count as usize } else { 256 }
+}
+
+// Writing by a verdict on the plan, for a caller that has it already: `kept` says whether the plan is sound. Nothing else is taken on trust.
+pub fn write_tested(kept: bool, plan: Plan, room: &mut [u8]) -> Written
+    ensures { λ r. ⌜ (r ≡ writtenBy kept plan (now (room .entry))) × (now (room .exit) ≡ roomAfterBy kept plan (now (room .entry))) ⌝ }
 {
     let types = plan.types;
     let source = plan.source_order;
     let target = plan.target_order;
     let subscribers = plan.subscribers;
-    let count = plan.count as usize;
-    if !plan::sound(plan) {
+    let count = places(plan.count);
+    if !kept {
         return Written::Refused(Refusal::RuleBroken(0));
     }
     // Only counted: no byte is written before the room is known to be long enough. The end field has three bytes.
@@ -216,4 +221,14 @@ pub fn write(plan: Plan, room: &mut [u8]) -> Written
     put_subscribers(room, subscribers, count, true);
     put_header(room, end, 127, 0);
     Written::Bytes(size)
+}
+
+// A sound plan's file into the room, if it fits in: how many bytes it has. The bytes past it stay.
+pub fn write(plan: Plan, room: &mut [u8]) -> Written
+    ensures { λ r. ⌜ (r ≡ written plan (now (room .entry))) × (now (room .exit) ≡ roomAfter plan (now (room .entry))) ⌝ }
+    ensures numbered { λ r. ⌜ (numberWritten r ≡ cond (sound plan) (cond (leb (length (bytesOf plan)) (length (now (room .entry)))) 0 25) 23)
+        × (placeWritten r ≡ cond (sound plan && leb (length (bytesOf plan)) (length (now (room .entry)))) Nowhere (At 0)) ⌝ }
+{
+    let kept = plan::sound(plan);
+    write_tested(kept, plan, room)
 }

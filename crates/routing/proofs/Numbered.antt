@@ -15,7 +15,7 @@ use Rattle.routing.specs.declared.Outcome.{Outcome}
 use Rattle.routing.specs.declared.Outcome.the-variants.{Routed, Refused}
 use Rattle.routing.specs.declared.Answer.{Answer}
 use Rattle.routing.specs.Steps.{calleeOf, receivedOf, leftOf}
-use Rattle.routing.specs.Routing.{roomy, settled, ended, outcome, refusedWith, answered, answer, numberOfOutcome, placeOfOutcome, numberOfLater, placeOfLater, numberGiven, placeGiven}
+use Rattle.routing.specs.Routing.{roomy, settledBy, ended, outcome, outcomeBy, refusedWith, answered, answer, answerBy, numberOfOutcome, placeOfOutcome, numberOfLater, placeOfLater, numberGiven, placeGiven}
 
 ended-number : (later : Later) (c : Callee) → numberOfOutcome (ended later c) ≡ numberOfLater later
 ended-number Nothing c = refl
@@ -27,7 +27,7 @@ ended-place (Refuse r) c = refl
 
 module _ (p : Plan) (out : Setup) (later : Later) (n m : ℕ) where
   pub route-number : numberOfOutcome (outcome p out later n m) ≡ numberGiven p out later n m
-  unfolding outcome settled numberGiven
+  unfolding outcomeBy settledBy numberGiven
   route-number =
       ⊎-elim (λ (a : sound p ≡ true).
       ⊎-elim (λ (b : wellFormed p out ≡ true).
@@ -40,7 +40,7 @@ module _ (p : Plan) (out : Setup) (later : Later) (n m : ℕ) where
       (yes-or-no (sound p))
 
   pub route-place : placeOfOutcome (outcome p out later n m) ≡ placeGiven p out later n m
-  unfolding outcome settled placeGiven
+  unfolding outcomeBy settledBy placeGiven
   route-place =
       ⊎-elim (λ (a : sound p ≡ true).
       ⊎-elim (λ (b : wellFormed p out ≡ true).
@@ -60,7 +60,7 @@ outcome-said (Refused r) s n = refl
 -- what is answered has this number and this place
 pub said : (p : Plan) (out : Setup) (later : Later) (n m : ℕ) (r : Answer) → r ≡ answer p out later n m
     → (numberOfOutcome (r .outcome) ≡ numberGiven p out later n m) × (placeOfOutcome (r .outcome) ≡ placeGiven p out later n m)
-unfolding answer
+unfolding answerBy
 said p out later n m r e =
     let o : r .outcome ≡ outcome p out later n m = ap (λ (a : Answer). a .outcome) e ∙ outcome-said (outcome p out later n m) (receivedOf p out) (leftOf p out) in
     (ap numberOfOutcome o ∙ route-number p out later n m, ap placeOfOutcome o ∙ route-place p out later n m)

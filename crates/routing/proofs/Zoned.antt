@@ -35,7 +35,7 @@ use Rattle.routing.specs.declared.Outcome.{Outcome}
 use Rattle.routing.specs.declared.Outcome.the-variants.{Routed, Refused}
 use Rattle.routing.specs.declared.Answer.{Answer}
 use Rattle.routing.specs.Steps.{target1, suffixAfter, suffix, expanded, zone2, route2, exhausted, region3, route3, outer3, regionOf, routeOf, calleeOf, receivedOf, leftOf}
-use Rattle.routing.specs.Routing.{unless, roomy, settled, ended, outcome, refusedWith, answered, answer, sourceList, targetList}
+use Rattle.routing.specs.Routing.{unless, roomy, settledBy, ended, outcomeBy, refusedWith, answered, answerBy, sourceList, targetList}
 use Rattle.routing.specs.Places.{listIn, zoneIn, suffixBegins, begins, delivered, advanced}
 use Rattle.routing.proofs.Parts.{stored-front}
 
@@ -47,8 +47,8 @@ target-given out e = rw e
 
 -- ---- what is settled before a route is handed over
 
-pub record Passed (p : Plan) (out : Setup) (sourceRoom targetRoom : ℕ) (later : Later) : Type 0 where
-  pub sound : sound p ≡ true
+pub record Passed (kept : Bool) (p : Plan) (out : Setup) (sourceRoom targetRoom : ℕ) (later : Later) : Type 0 where
+  pub sound : kept ≡ true
   pub well-formed : wellFormed p out ≡ true
   pub room : roomy sourceRoom targetRoom ≡ true
   pub nothing : later ≡ Nothing
@@ -57,18 +57,18 @@ abbrev refuses : Later → Bool
 refuses Nothing = false
 refuses (Refuse r) = true
 
-pub settled-passed : (p : Plan) (out : Setup) (later : Later) (n m : ℕ) → settled p out later n m ≡ Nothing → Passed p out n m later
-unfolding settled
-settled-passed p out later n m e =
-    ⊎-elim (λ (a : sound p ≡ true).
+pub settled-passed : (kept : Bool) (p : Plan) (out : Setup) (later : Later) (n m : ℕ) → settledBy kept p out later n m ≡ Nothing → Passed kept p out n m later
+unfolding settledBy
+settled-passed kept p out later n m e =
+    ⊎-elim (λ (a : kept ≡ true).
     ⊎-elim (λ (b : wellFormed p out ≡ true).
     ⊎-elim (λ (d : roomy n m ≡ true). record { sound = a; well-formed = b; room = d; nothing = rw (a, b, d) at e })
     (λ (d : roomy n m ≡ false). absurd (false≢true (sym (ap refuses (rw (a, b, d) at e)))))
     (yes-or-no (roomy n m)))
     (λ (b : wellFormed p out ≡ false). absurd (false≢true (sym (ap refuses (rw (a, b) at e)))))
     (yes-or-no (wellFormed p out)))
-    (λ (a : sound p ≡ false). absurd (false≢true (sym (ap refuses (rw a at e)))))
-    (yes-or-no (sound p))
+    (λ (a : kept ≡ false). absurd (false≢true (sym (ap refuses (rw a at e)))))
+    (yes-or-no kept)
 
 -- a refusal is one of routing's own three, or the caller's
 refusalIn : Later → Refusal → Refusal
@@ -79,19 +79,19 @@ same-refusal : {r x : Refusal} → Refuse x ≡ Refuse r → r ≡ x
 unfolding refusalIn
 same-refusal {r} {x} e = sym (ap (λ (l : Later). refusalIn l x) e)
 
-pub settled-refusal : (p : Plan) (out : Setup) (later : Later) (n m : ℕ) (r : Refusal) → settled p out later n m ≡ Refuse r
+pub settled-refusal : (kept : Bool) (p : Plan) (out : Setup) (later : Later) (n m : ℕ) (r : Refusal) → settledBy kept p out later n m ≡ Refuse r
     → (r ≡ RuleBroken 0) ⊎ ((r ≡ Malformed) ⊎ ((r ≡ ListTooShort) ⊎ (later ≡ Refuse r)))
-unfolding settled
-settled-refusal p out later n m r e =
-    ⊎-elim (λ (a : sound p ≡ true).
+unfolding settledBy
+settled-refusal kept p out later n m r e =
+    ⊎-elim (λ (a : kept ≡ true).
     ⊎-elim (λ (b : wellFormed p out ≡ true).
     ⊎-elim (λ (d : roomy n m ≡ true). inr (inr (inr (rw (a, b, d) at e))))
     (λ (d : roomy n m ≡ false). inr (inr (inl (same-refusal (rw (a, b, d) at e)))))
     (yes-or-no (roomy n m)))
     (λ (b : wellFormed p out ≡ false). inr (inl (same-refusal (rw (a, b) at e))))
     (yes-or-no (wellFormed p out)))
-    (λ (a : sound p ≡ false). inl (same-refusal (rw a at e)))
-    (yes-or-no (sound p))
+    (λ (a : kept ≡ false). inl (same-refusal (rw a at e)))
+    (yes-or-no kept)
 
 pub room-source : (n m : ℕ) → roomy n m ≡ true → 32 ≤ n
 unfolding roomy
@@ -156,12 +156,12 @@ route-begins p out w =
 
 -- ---- the whole
 
-pub handed-over : (p : Plan) (out : Setup) (later : Later) (n m : ℕ) (zs zt : Zone) → listOf zs ≡ zoneAt p Source (out .source) → listOf zt ≡ zoneAt p Target (target1 out)
-    → settled p out later n m ≡ Nothing
-    → advanced p out (target1 out) (drop (begins (out .route) (out .placing) (listOf (out .list)) (listOf (zoneIn (out .region) zs zt))) (listOf (zoneIn (out .region) zs zt))) (listOf zt) ≡ answer p out later n m
-unfolding answer outcome calleeOf receivedOf leftOf regionOf routeOf advanced delivered
-handed-over p out later n m zs zt s t e =
-    rw (zone-is p out zs zt s t, route-begins p out (settled-passed p out later n m e .well-formed), t, e)
+pub handed-over : (kept : Bool) (p : Plan) (out : Setup) (later : Later) (n m : ℕ) (zs zt : Zone) → listOf zs ≡ zoneAt p Source (out .source) → listOf zt ≡ zoneAt p Target (target1 out)
+    → settledBy kept p out later n m ≡ Nothing
+    → advanced p out (target1 out) (drop (begins (out .route) (out .placing) (listOf (out .list)) (listOf (zoneIn (out .region) zs zt))) (listOf (zoneIn (out .region) zs zt))) (listOf zt) ≡ answerBy kept p out later n m
+unfolding answerBy outcomeBy calleeOf receivedOf leftOf regionOf routeOf advanced delivered
+handed-over kept p out later n m zs zt s t e =
+    rw (zone-is p out zs zt s t, route-begins p out (settled-passed kept p out later n m e .well-formed), t, e)
 
 -- step 3, by whether the source region is exhausted
 pub advanced-on : (p : Plan) (out : Setup) (target : ℕ) (rest targetZone : List ℕ) → exhausted (out .region) rest ≡ true
@@ -191,25 +191,25 @@ pub list-begins : (r : Region) (zs zt : Zone) (source target : List ℕ) → tak
 list-begins Source zs zt source target s t = s
 list-begins Target zs zt source target s t = t
 
-pub list-refused : (p : Plan) (out : Setup) (later : Later) (n m : ℕ) (r : Refusal) → settled p out later n m ≡ Refuse r → outcome p out later n m ≡ Refused r
-unfolding outcome
-list-refused p out later n m r e = rw e
+pub list-refused : (kept : Bool) (p : Plan) (out : Setup) (later : Later) (n m : ℕ) (r : Refusal) → settledBy kept p out later n m ≡ Refuse r → outcomeBy kept p out later n m ≡ Refused r
+unfolding outcomeBy
+list-refused kept p out later n m r e = rw e
 
-pub list-routed : (p : Plan) (out : Setup) (later : Later) (n m : ℕ) → settled p out later n m ≡ Nothing → outcome p out later n m ≡ Routed (calleeOf p out)
-unfolding outcome
-list-routed p out later n m e = rw e
+pub list-routed : (kept : Bool) (p : Plan) (out : Setup) (later : Later) (n m : ℕ) → settledBy kept p out later n m ≡ Nothing → outcomeBy kept p out later n m ≡ Routed (calleeOf p out)
+unfolding outcomeBy
+list-routed kept p out later n m e = rw e
 
-pub source-refused : (p : Plan) (out : Setup) (later : Later) (n m : ℕ) (r : Refusal) (l : List ℕ) → settled p out later n m ≡ Refuse r → sourceList p out (outcome p out later n m) l ≡ l
+pub source-refused : (kept : Bool) (p : Plan) (out : Setup) (later : Later) (n m : ℕ) (r : Refusal) (l : List ℕ) → settledBy kept p out later n m ≡ Refuse r → sourceList p out (outcomeBy kept p out later n m) l ≡ l
 unfolding sourceList
-source-refused p out later n m r l e = rw (list-refused p out later n m r e)
+source-refused kept p out later n m r l e = rw (list-refused kept p out later n m r e)
 
-pub target-refused : (p : Plan) (out : Setup) (later : Later) (n m : ℕ) (r : Refusal) (l : List ℕ) → settled p out later n m ≡ Refuse r → targetList p out (outcome p out later n m) l ≡ l
+pub target-refused : (kept : Bool) (p : Plan) (out : Setup) (later : Later) (n m : ℕ) (r : Refusal) (l : List ℕ) → settledBy kept p out later n m ≡ Refuse r → targetList p out (outcomeBy kept p out later n m) l ≡ l
 unfolding targetList
-target-refused p out later n m r l e = rw (list-refused p out later n m r e)
+target-refused kept p out later n m r l e = rw (list-refused kept p out later n m r e)
 
-pub answer-refused : (p : Plan) (out : Setup) (later : Later) (n m : ℕ) (r : Refusal) → settled p out later n m ≡ Refuse r → answer p out later n m ≡ refusedWith r
-unfolding answer answered
-answer-refused p out later n m r e = rw (list-refused p out later n m r e)
+pub answer-refused : (kept : Bool) (p : Plan) (out : Setup) (later : Later) (n m : ℕ) (r : Refusal) → settledBy kept p out later n m ≡ Refuse r → answerBy kept p out later n m ≡ refusedWith r
+unfolding answerBy answered
+answer-refused kept p out later n m r e = rw (list-refused kept p out later n m r e)
 
 -- what is answered has the outcome in it
 has-outcome : (o : Outcome) (s : Setup) (n : ℕ) → answered o s n .outcome ≡ o
@@ -217,16 +217,16 @@ unfolding answered refusedWith
 has-outcome (Routed c) s n = refl
 has-outcome (Refused r) s n = refl
 
-pub answer-outcome : (p : Plan) (out : Setup) (later : Later) (n m : ℕ) → answer p out later n m .outcome ≡ outcome p out later n m
-unfolding answer
-answer-outcome p out later n m = has-outcome (outcome p out later n m) (receivedOf p out) (leftOf p out)
+pub answer-outcome : (kept : Bool) (p : Plan) (out : Setup) (later : Later) (n m : ℕ) → answerBy kept p out later n m .outcome ≡ outcomeBy kept p out later n m
+unfolding answerBy
+answer-outcome kept p out later n m = has-outcome (outcomeBy kept p out later n m) (receivedOf p out) (leftOf p out)
 
-pub source-routed : (p : Plan) (out : Setup) (later : Later) (n m : ℕ) (z : Zone) (l : List ℕ) → settled p out later n m ≡ Nothing → listOf z ≡ zoneAt p Source (out .source)
-    → length (listOf z) ≤ length l → sets l 0 (listOf z) ≡ sourceList p out (outcome p out later n m) l
+pub source-routed : (kept : Bool) (p : Plan) (out : Setup) (later : Later) (n m : ℕ) (z : Zone) (l : List ℕ) → settledBy kept p out later n m ≡ Nothing → listOf z ≡ zoneAt p Source (out .source)
+    → length (listOf z) ≤ length l → sets l 0 (listOf z) ≡ sourceList p out (outcomeBy kept p out later n m) l
 unfolding sourceList
-source-routed p out later n m z l e s short = stored-front (listOf z) l short ∙ rw (list-routed p out later n m e, s)
+source-routed kept p out later n m z l e s short = stored-front (listOf z) l short ∙ rw (list-routed kept p out later n m e, s)
 
-pub target-routed : (p : Plan) (out : Setup) (later : Later) (n m : ℕ) (z : Zone) (l : List ℕ) → settled p out later n m ≡ Nothing → listOf z ≡ zoneAt p Target (target1 out)
-    → length (listOf z) ≤ length l → sets l 0 (listOf z) ≡ targetList p out (outcome p out later n m) l
+pub target-routed : (kept : Bool) (p : Plan) (out : Setup) (later : Later) (n m : ℕ) (z : Zone) (l : List ℕ) → settledBy kept p out later n m ≡ Nothing → listOf z ≡ zoneAt p Target (target1 out)
+    → length (listOf z) ≤ length l → sets l 0 (listOf z) ≡ targetList p out (outcomeBy kept p out later n m) l
 unfolding targetList
-target-routed p out later n m z l e t short = stored-front (listOf z) l short ∙ rw (list-routed p out later n m e, t)
+target-routed kept p out later n m z l e t short = stored-front (listOf z) l short ∙ rw (list-routed kept p out later n m e, t)

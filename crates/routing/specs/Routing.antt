@@ -33,19 +33,25 @@ unless false r rest = Refuse r
 unfoldable pub roomy : ℕ → ℕ → Bool
 roomy sourceRoom targetRoom = leb 32 sourceRoom && leb 32 targetRoom
 
--- the first refusal that applies, or nothing
-unfoldable pub settled : Plan → Setup → Later → ℕ → ℕ → Later
-settled p out later sourceRoom targetRoom =
-    unless (sound p) (RuleBroken 0)
+-- the first refusal that applies, or nothing, by the verdict on the plan
+unfoldable pub settledBy : Bool → Plan → Setup → Later → ℕ → ℕ → Later
+settledBy kept p out later sourceRoom targetRoom =
+    unless kept (RuleBroken 0)
     (unless (wellFormed p out) Malformed
     (unless (roomy sourceRoom targetRoom) ListTooShort later))
+
+abbrev pub settled : Plan → Setup → Later → ℕ → ℕ → Later
+settled p out later sourceRoom targetRoom = settledBy (sound p) p out later sourceRoom targetRoom
 
 abbrev pub ended : Later → Callee → Outcome
 ended Nothing callee = Routed callee
 ended (Refuse r) callee = Refused r
 
-unfoldable pub outcome : Plan → Setup → Later → ℕ → ℕ → Outcome
-outcome p out later sourceRoom targetRoom = ended (settled p out later sourceRoom targetRoom) (calleeOf p out)
+unfoldable pub outcomeBy : Bool → Plan → Setup → Later → ℕ → ℕ → Outcome
+outcomeBy kept p out later sourceRoom targetRoom = ended (settledBy kept p out later sourceRoom targetRoom) (calleeOf p out)
+
+abbrev pub outcome : Plan → Setup → Later → ℕ → ℕ → Outcome
+outcome p out later sourceRoom targetRoom = outcomeBy (sound p) p out later sourceRoom targetRoom
 
 -- what is answered: the callee box, the setup received and how many types are left in it; or the refusal, and a blank setup and 0 beside it
 unfoldable pub refusedWith : Refusal → Answer
@@ -55,8 +61,11 @@ unfoldable pub answered : Outcome → Setup → ℕ → Answer
 answered (Routed c) s n = record { outcome = Routed c; setup = s; left = n }
 answered (Refused r) s n = refusedWith r
 
-unfoldable pub answer : Plan → Setup → Later → ℕ → ℕ → Answer
-answer p out later sourceRoom targetRoom = answered (outcome p out later sourceRoom targetRoom) (receivedOf p out) (leftOf p out)
+unfoldable pub answerBy : Bool → Plan → Setup → Later → ℕ → ℕ → Answer
+answerBy kept p out later sourceRoom targetRoom = answered (outcomeBy kept p out later sourceRoom targetRoom) (receivedOf p out) (leftOf p out)
+
+abbrev pub answer : Plan → Setup → Later → ℕ → ℕ → Answer
+answer p out later sourceRoom targetRoom = answerBy (sound p) p out later sourceRoom targetRoom
 
 -- a lent list afterwards: the zone from place 0 on and the old places past it; as it was, beside a refusal
 abbrev pub lent : Outcome → List ℕ → List ℕ → List ℕ

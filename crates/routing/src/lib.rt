@@ -11,7 +11,7 @@ ghost use Rattle.routing.specs.declared.Later.the-variants.{Nothing};
 ghost use Rattle.routing.specs.Interface.{boxOf, firstBox, interfaceAt};
 ghost use Rattle.zone.specs.Answer.{zoneAt};
 ghost use Rattle.routing.specs.Steps.{dials, target1, placeOf, before, exhausted, tail, callee4, received4};
-ghost use Rattle.routing.specs.Routing.{roomy, settled, refusedWith, outcome, answer, sourceList, targetList};
+ghost use Rattle.routing.specs.Routing.{roomy, settledBy, refusedWith, outcome, outcomeBy, answer, answerBy, sourceList, targetList};
 ghost use Rattle.routing.specs.Places.{listIn, zoneIn, suffixBegins, begins, delivered, advanced};
 use embedded::Dials;
 use plan::Found;
@@ -315,6 +315,7 @@ fn roomy(source_room: usize, target_room: usize) -> bool
 
 // The first refusal that applies, or nothing, for a caller that has built both zones.
 fn settled(
+    kept: bool,
     plan: Plan,
     out: Setup,
     later: Later,
@@ -324,12 +325,12 @@ fn settled(
     target_room: usize,
 ) -> Later
     requires { ⌜ (listOf «source_zone» ≡ zoneAt plan Source (out .source)) × (listOf «target_zone» ≡ zoneAt plan Target (target1 out)) ⌝ }
-    ensures { λ r. ⌜ r ≡ settled plan out later «source_room» «target_room» ⌝ }
+    ensures { λ r. ⌜ r ≡ settledBy kept plan out later «source_room» «target_room» ⌝ }
 {
     let region = out.region;
     let types = plan.types;
     let zone = zone_in(region, source_zone, target_zone);
-    if !plan::sound(plan) {
+    if !kept {
         return Later::Refuse(Refusal::RuleBroken(0));
     }
     if !faults::well_formed_in(zone, types.reversible, out) {
@@ -366,23 +367,24 @@ fn refused(r: Refusal) -> Answer
     }
 }
 
-// The callee box of any setup under any plan, the setup received and how many types are left, with the zones of source and target in the two lent lists; or 23, 5, 18 and then the caller's own
-// refusal, with nothing written. It is for a caller that has more to settle before a call can be placed.
-pub fn route_unless(
+// Routing by a verdict on the plan, for a caller that has it already: `kept` says whether the plan is sound. Nothing else is taken on trust.
+pub fn route_tested(
+    kept: bool,
     plan: Plan,
     out: Setup,
     later: Later,
     source_list: &mut [u8],
     target_list: &mut [u8],
 ) -> Answer
-    ensures { λ r. ⌜ (r ≡ answer plan out later (length (now («source_list» .entry))) (length (now («target_list» .entry))))
-        × (now («source_list» .exit) ≡ sourceList plan out (outcome plan out later (length (now («source_list» .entry))) (length (now («target_list» .entry)))) (now («source_list» .entry)))
-        × (now («target_list» .exit) ≡ targetList plan out (outcome plan out later (length (now («source_list» .entry))) (length (now («target_list» .entry)))) (now («target_list» .entry))) ⌝ }
+    ensures { λ r. ⌜ (r ≡ answerBy kept plan out later (length (now («source_list» .entry))) (length (now («target_list» .entry))))
+        × (now («source_list» .exit) ≡ sourceList plan out (outcomeBy kept plan out later (length (now («source_list» .entry))) (length (now («target_list» .entry)))) (now («source_list» .entry)))
+        × (now («target_list» .exit) ≡ targetList plan out (outcomeBy kept plan out later (length (now («source_list» .entry))) (length (now («target_list» .entry)))) (now («target_list» .entry))) ⌝ }
 {
     let target = extracted(out);
     let source_zone = zone::zone_at(plan, Region::Source, out.source);
     let target_zone = zone::zone_at(plan, Region::Target, target);
     match settled(
+        kept,
         plan,
         out,
         later,
@@ -406,6 +408,23 @@ pub fn route_unless(
             )
         }
     }
+}
+
+// The callee box of any setup under any plan, the setup received and how many types are left, with the zones of source and target in the two lent lists; or 23, 5, 18 and then the caller's own
+// refusal, with nothing written. It is for a caller that has more to settle before a call can be placed.
+pub fn route_unless(
+    plan: Plan,
+    out: Setup,
+    later: Later,
+    source_list: &mut [u8],
+    target_list: &mut [u8],
+) -> Answer
+    ensures { λ r. ⌜ (r ≡ answer plan out later (length (now («source_list» .entry))) (length (now («target_list» .entry))))
+        × (now («source_list» .exit) ≡ sourceList plan out (outcome plan out later (length (now («source_list» .entry))) (length (now («target_list» .entry)))) (now («source_list» .entry)))
+        × (now («target_list» .exit) ≡ targetList plan out (outcome plan out later (length (now («source_list» .entry))) (length (now («target_list» .entry)))) (now («target_list» .entry))) ⌝ }
+{
+    let kept = plan::sound(plan);
+    route_tested(kept, plan, out, later, source_list, target_list)
 }
 
 // The same, for a caller that has nothing more to settle: 23, 5, 18.

@@ -24,63 +24,63 @@ use Rattle.setup.specs.Setups.{routingAddress, listOf, endPart, inRange, listFi
 use Rattle.embedded.specs.Embedded.{digit, allDigits, numberFrom, coded, skipped, afterCode, writesAddress, embedded}
 use Rattle.making.specs.declared.Maker.the-variants.{Trunk as TrunkBox, Feature as FeatureBox}
 use Rattle.making.specs.declared.Outcome.the-variants.{Made}
-use Rattle.making.specs.Making.{newSetup, newOutcome, further, continuedSetup, answered as madeAnswered, newAnswer, reversedAnswer}
+use Rattle.making.specs.Making.{newSetup, newOutcome, newOutcomeBy, further, continuedSetup, answered as madeAnswered, newAnswer, reversedAnswer}
 use Rattle.making_examples.specs.Setups.{dialled300, setupOf, p5Sent, p6Received, p6Sent, p7Received, p7Sent, p7ReceivedAt700, p7SentAgain, p8Stored, p8Sent}
 use Rattle.making_examples.proofs.Made.{p5-made, p6-made, p7-made, p7-made-again, p8-made}
 use Rattle.routing.specs.declared.Later.the-variants.{Nothing}
 use Rattle.routing.specs.declared.Callee.the-variants.{Feature, Trunk, Resource, Error}
 use Rattle.routing.specs.Interface.{boxOf, firstBox, foundBox, interfaceAt}
 use Rattle.routing.specs.Steps.{target1, placeOf, stands, before, suffixAfter, zone2, route2, region3, route3, outer3, callee4, received4, regionOf, routeOf, calleeOf, receivedOf, leftOf}
-use Rattle.routing.specs.Routing.{roomy, settled, outcome, answered, answer}
+use Rattle.routing.specs.Routing.{roomy, settledBy, outcomeBy, answered, answer, answerBy}
 use Rattle.journey.specs.Hops.{passedOn}
 use Rattle.thirteen.specs.Table.{made, routes, received, receivedNoString, Thirteen}
 
 p5-routes : routes p5Sent (Feature 1 200) (received Source 200 300 (2 ∷ 4 ∷ []) (OuterAt 200)) 2
-unfolding has every some least count setOf without lowest size minus legal given used firstWith lookup precedes held preceded unpreceded next zoneFrom zoneList zoneFor zoneAt subscriber unused types sourceRows targetRows subscribers teaching symbol legalString padded dialled stringOf legalDialled routingAddress listOf endPart inRange listFits faultIn fault wellFormed digit allDigits numberFrom coded skipped afterCode writesAddress embedded dialled300 setupOf p5Sent boxOf firstBox foundBox interfaceAt target1 placeOf stands before suffixAfter zone2 route2 region3 route3 outer3 callee4 received4 regionOf routeOf calleeOf receivedOf leftOf roomy settled outcome answered answer
+unfolding has every some least count setOf without lowest size minus legal given used firstWith lookup precedes held preceded unpreceded next zoneFrom zoneList zoneFor zoneAt subscriber unused types sourceRows targetRows subscribers teaching symbol legalString padded dialled stringOf legalDialled routingAddress listOf endPart inRange listFits faultIn fault wellFormed digit allDigits numberFrom coded skipped afterCode writesAddress embedded dialled300 setupOf p5Sent boxOf firstBox foundBox interfaceAt target1 placeOf stands before suffixAfter zone2 route2 region3 route3 outer3 callee4 received4 regionOf routeOf calleeOf receivedOf leftOf roomy settledBy outcomeBy answered answerBy
 p5-routes = rw teaching-sound
 
 p5-to-2-routes : routes (passedOn 200 (received Source 200 300 (2 ∷ 4 ∷ []) (OuterAt 200))) (Feature 2 200) (received Source 200 300 (4 ∷ []) NoOuter) 1
-unfolding has every some least count setOf without lowest size minus legal given used firstWith lookup precedes held preceded unpreceded next zoneFrom zoneList zoneFor zoneAt subscriber unused types sourceRows targetRows subscribers teaching symbol legalString padded dialled stringOf legalDialled routingAddress listOf endPart inRange listFits faultIn fault wellFormed digit allDigits numberFrom coded skipped afterCode writesAddress embedded dialled300 setupOf passedOn continuedSetup further boxOf firstBox foundBox interfaceAt target1 placeOf stands before suffixAfter zone2 route2 region3 route3 outer3 callee4 received4 regionOf routeOf calleeOf receivedOf leftOf roomy settled outcome answered answer
+unfolding has every some least count setOf without lowest size minus legal given used firstWith lookup precedes held preceded unpreceded next zoneFrom zoneList zoneFor zoneAt subscriber unused types sourceRows targetRows subscribers teaching symbol legalString padded dialled stringOf legalDialled routingAddress listOf endPart inRange listFits faultIn fault wellFormed digit allDigits numberFrom coded skipped afterCode writesAddress embedded dialled300 setupOf passedOn continuedSetup further boxOf firstBox foundBox interfaceAt target1 placeOf stands before suffixAfter zone2 route2 region3 route3 outer3 callee4 received4 regionOf routeOf calleeOf receivedOf leftOf roomy settledBy outcomeBy answered answerBy
 p5-to-2-routes = rw teaching-sound
 
 p5-to-4-routes : routes (passedOn 200 (received Source 200 300 (4 ∷ []) NoOuter)) (Feature 4 200) p6Received 0
-unfolding has every some least count setOf without lowest size minus legal given used firstWith lookup precedes held preceded unpreceded next zoneFrom zoneList zoneFor zoneAt subscriber unused types sourceRows targetRows subscribers teaching symbol legalString padded dialled stringOf legalDialled routingAddress listOf endPart inRange listFits faultIn fault wellFormed digit allDigits numberFrom coded skipped afterCode writesAddress embedded dialled300 setupOf passedOn continuedSetup further p6Received boxOf firstBox foundBox interfaceAt target1 placeOf stands before suffixAfter zone2 route2 region3 route3 outer3 callee4 received4 regionOf routeOf calleeOf receivedOf leftOf roomy settled outcome answered answer
+unfolding has every some least count setOf without lowest size minus legal given used firstWith lookup precedes held preceded unpreceded next zoneFrom zoneList zoneFor zoneAt subscriber unused types sourceRows targetRows subscribers teaching symbol legalString padded dialled stringOf legalDialled routingAddress listOf endPart inRange listFits faultIn fault wellFormed digit allDigits numberFrom coded skipped afterCode writesAddress embedded dialled300 setupOf passedOn continuedSetup further p6Received boxOf firstBox foundBox interfaceAt target1 placeOf stands before suffixAfter zone2 route2 region3 route3 outer3 callee4 received4 regionOf routeOf calleeOf receivedOf leftOf roomy settledBy outcomeBy answered answerBy
 p5-to-4-routes = rw teaching-sound
 
 p6-routes : routes p6Sent (Feature 3 300) (received Target 200 300 (5 ∷ 4 ∷ 2 ∷ []) NoOuter) 3
-unfolding has every some least count setOf without lowest size minus legal given used firstWith lookup precedes held preceded unpreceded next zoneFrom zoneList zoneFor zoneAt subscriber unused types sourceRows targetRows subscribers teaching symbol legalString padded dialled stringOf legalDialled routingAddress listOf endPart inRange listFits faultIn fault wellFormed digit allDigits numberFrom coded skipped afterCode writesAddress embedded dialled300 setupOf p6Sent boxOf firstBox foundBox interfaceAt target1 placeOf stands before suffixAfter zone2 route2 region3 route3 outer3 callee4 received4 regionOf routeOf calleeOf receivedOf leftOf roomy settled outcome answered answer
+unfolding has every some least count setOf without lowest size minus legal given used firstWith lookup precedes held preceded unpreceded next zoneFrom zoneList zoneFor zoneAt subscriber unused types sourceRows targetRows subscribers teaching symbol legalString padded dialled stringOf legalDialled routingAddress listOf endPart inRange listFits faultIn fault wellFormed digit allDigits numberFrom coded skipped afterCode writesAddress embedded dialled300 setupOf p6Sent boxOf firstBox foundBox interfaceAt target1 placeOf stands before suffixAfter zone2 route2 region3 route3 outer3 callee4 received4 regionOf routeOf calleeOf receivedOf leftOf roomy settledBy outcomeBy answered answerBy
 p6-routes = rw teaching-sound
 
 p6-to-5-routes : routes (passedOn 300 (received Target 200 300 (5 ∷ 4 ∷ 2 ∷ []) NoOuter)) (Feature 5 300) p7Received 2
-unfolding has every some least count setOf without lowest size minus legal given used firstWith lookup precedes held preceded unpreceded next zoneFrom zoneList zoneFor zoneAt subscriber unused types sourceRows targetRows subscribers teaching symbol legalString padded dialled stringOf legalDialled routingAddress listOf endPart inRange listFits faultIn fault wellFormed digit allDigits numberFrom coded skipped afterCode writesAddress embedded dialled300 setupOf passedOn continuedSetup further p7Received boxOf firstBox foundBox interfaceAt target1 placeOf stands before suffixAfter zone2 route2 region3 route3 outer3 callee4 received4 regionOf routeOf calleeOf receivedOf leftOf roomy settled outcome answered answer
+unfolding has every some least count setOf without lowest size minus legal given used firstWith lookup precedes held preceded unpreceded next zoneFrom zoneList zoneFor zoneAt subscriber unused types sourceRows targetRows subscribers teaching symbol legalString padded dialled stringOf legalDialled routingAddress listOf endPart inRange listFits faultIn fault wellFormed digit allDigits numberFrom coded skipped afterCode writesAddress embedded dialled300 setupOf passedOn continuedSetup further p7Received boxOf firstBox foundBox interfaceAt target1 placeOf stands before suffixAfter zone2 route2 region3 route3 outer3 callee4 received4 regionOf routeOf calleeOf receivedOf leftOf roomy settledBy outcomeBy answered answerBy
 p6-to-5-routes = rw teaching-sound
 
 p7-routes : routes p7Sent (Feature 3 700) p7ReceivedAt700 0
-unfolding has every some least count setOf without lowest size minus legal given used firstWith lookup precedes held preceded unpreceded next zoneFrom zoneList zoneFor zoneAt subscriber unused types sourceRows targetRows subscribers teaching symbol legalString padded dialled stringOf legalDialled routingAddress listOf endPart inRange listFits faultIn fault wellFormed digit allDigits numberFrom coded skipped afterCode writesAddress embedded dialled300 setupOf p7Sent p7ReceivedAt700 boxOf firstBox foundBox interfaceAt target1 placeOf stands before suffixAfter zone2 route2 region3 route3 outer3 callee4 received4 regionOf routeOf calleeOf receivedOf leftOf roomy settled outcome answered answer
+unfolding has every some least count setOf without lowest size minus legal given used firstWith lookup precedes held preceded unpreceded next zoneFrom zoneList zoneFor zoneAt subscriber unused types sourceRows targetRows subscribers teaching symbol legalString padded dialled stringOf legalDialled routingAddress listOf endPart inRange listFits faultIn fault wellFormed digit allDigits numberFrom coded skipped afterCode writesAddress embedded dialled300 setupOf p7Sent p7ReceivedAt700 boxOf firstBox foundBox interfaceAt target1 placeOf stands before suffixAfter zone2 route2 region3 route3 outer3 callee4 received4 regionOf routeOf calleeOf receivedOf leftOf roomy settledBy outcomeBy answered answerBy
 p7-routes = rw teaching-sound
 
 p7-error-routes : routes p7SentAgain (Error 700) (received Target 200 700 [] NoOuter) 0
-unfolding has every some least count setOf without lowest size minus legal given used firstWith lookup precedes held preceded unpreceded next zoneFrom zoneList zoneFor zoneAt subscriber unused types sourceRows targetRows subscribers teaching symbol legalString padded dialled stringOf legalDialled routingAddress listOf endPart inRange listFits faultIn fault wellFormed digit allDigits numberFrom coded skipped afterCode writesAddress embedded dialled300 setupOf p7SentAgain boxOf firstBox foundBox interfaceAt target1 placeOf stands before suffixAfter zone2 route2 region3 route3 outer3 callee4 received4 regionOf routeOf calleeOf receivedOf leftOf roomy settled outcome answered answer
+unfolding has every some least count setOf without lowest size minus legal given used firstWith lookup precedes held preceded unpreceded next zoneFrom zoneList zoneFor zoneAt subscriber unused types sourceRows targetRows subscribers teaching symbol legalString padded dialled stringOf legalDialled routingAddress listOf endPart inRange listFits faultIn fault wellFormed digit allDigits numberFrom coded skipped afterCode writesAddress embedded dialled300 setupOf p7SentAgain boxOf firstBox foundBox interfaceAt target1 placeOf stands before suffixAfter zone2 route2 region3 route3 outer3 callee4 received4 regionOf routeOf calleeOf receivedOf leftOf roomy settledBy outcomeBy answered answerBy
 p7-error-routes = rw teaching-sound
 
 p8-routes : routes (setupOf Target 300 200 Suffix [] (PlacedBy 4) NoOuter) (Feature 2 200) (received Target 300 200 [] NoOuter) 0
-unfolding has every some least count setOf without lowest size minus legal given used firstWith lookup precedes held preceded unpreceded next zoneFrom zoneList zoneFor zoneAt subscriber unused types sourceRows targetRows subscribers teaching symbol legalString padded dialled stringOf legalDialled routingAddress listOf endPart inRange listFits faultIn fault wellFormed digit allDigits numberFrom coded skipped afterCode writesAddress embedded dialled300 setupOf boxOf firstBox foundBox interfaceAt target1 placeOf stands before suffixAfter zone2 route2 region3 route3 outer3 callee4 received4 regionOf routeOf calleeOf receivedOf leftOf roomy settled outcome answered answer
+unfolding has every some least count setOf without lowest size minus legal given used firstWith lookup precedes held preceded unpreceded next zoneFrom zoneList zoneFor zoneAt subscriber unused types sourceRows targetRows subscribers teaching symbol legalString padded dialled stringOf legalDialled routingAddress listOf endPart inRange listFits faultIn fault wellFormed digit allDigits numberFrom coded skipped afterCode writesAddress embedded dialled300 setupOf boxOf firstBox foundBox interfaceAt target1 placeOf stands before suffixAfter zone2 route2 region3 route3 outer3 callee4 received4 regionOf routeOf calleeOf receivedOf leftOf roomy settledBy outcomeBy answered answerBy
 p8-routes = rw teaching-sound
 
 p9-routes : routes (setupOf Target 200 700 Suffix [] (PlacedBy 2) NoOuter) (Feature 3 700) (received Target 200 700 [] NoOuter) 0
-unfolding has every some least count setOf without lowest size minus legal given used firstWith lookup precedes held preceded unpreceded next zoneFrom zoneList zoneFor zoneAt subscriber unused types sourceRows targetRows subscribers teaching symbol legalString padded dialled stringOf legalDialled routingAddress listOf endPart inRange listFits faultIn fault wellFormed digit allDigits numberFrom coded skipped afterCode writesAddress embedded dialled300 setupOf boxOf firstBox foundBox interfaceAt target1 placeOf stands before suffixAfter zone2 route2 region3 route3 outer3 callee4 received4 regionOf routeOf calleeOf receivedOf leftOf roomy settled outcome answered answer
+unfolding has every some least count setOf without lowest size minus legal given used firstWith lookup precedes held preceded unpreceded next zoneFrom zoneList zoneFor zoneAt subscriber unused types sourceRows targetRows subscribers teaching symbol legalString padded dialled stringOf legalDialled routingAddress listOf endPart inRange listFits faultIn fault wellFormed digit allDigits numberFrom coded skipped afterCode writesAddress embedded dialled300 setupOf boxOf firstBox foundBox interfaceAt target1 placeOf stands before suffixAfter zone2 route2 region3 route3 outer3 callee4 received4 regionOf routeOf calleeOf receivedOf leftOf roomy settledBy outcomeBy answered answerBy
 p9-routes = rw teaching-sound
 
 p10-900-routes : routes (newSetup 555 [] 900) (Resource 60 900) (receivedNoString 555 900) 0
-unfolding has every some least count setOf without lowest size minus legal given used firstWith lookup precedes held preceded unpreceded next zoneFrom zoneList zoneFor zoneAt subscriber unused types sourceRows targetRows subscribers teaching symbol legalString padded dialled stringOf legalDialled routingAddress listOf endPart inRange listFits faultIn fault wellFormed digit allDigits numberFrom coded skipped afterCode writesAddress embedded dialled300 setupOf newSetup boxOf firstBox foundBox interfaceAt target1 placeOf stands before suffixAfter zone2 route2 region3 route3 outer3 callee4 received4 regionOf routeOf calleeOf receivedOf leftOf roomy settled outcome answered answer
+unfolding has every some least count setOf without lowest size minus legal given used firstWith lookup precedes held preceded unpreceded next zoneFrom zoneList zoneFor zoneAt subscriber unused types sourceRows targetRows subscribers teaching symbol legalString padded dialled stringOf legalDialled routingAddress listOf endPart inRange listFits faultIn fault wellFormed digit allDigits numberFrom coded skipped afterCode writesAddress embedded dialled300 setupOf newSetup boxOf firstBox foundBox interfaceAt target1 placeOf stands before suffixAfter zone2 route2 region3 route3 outer3 callee4 received4 regionOf routeOf calleeOf receivedOf leftOf roomy settledBy outcomeBy answered answerBy
 p10-900-routes = rw teaching-sound
 
 p10-556-routes : routes (newSetup 555 [] 556) (Error 556) (receivedNoString 555 556) 0
-unfolding has every some least count setOf without lowest size minus legal given used firstWith lookup precedes held preceded unpreceded next zoneFrom zoneList zoneFor zoneAt subscriber unused types sourceRows targetRows subscribers teaching symbol legalString padded dialled stringOf legalDialled routingAddress listOf endPart inRange listFits faultIn fault wellFormed digit allDigits numberFrom coded skipped afterCode writesAddress embedded dialled300 setupOf newSetup boxOf firstBox foundBox interfaceAt target1 placeOf stands before suffixAfter zone2 route2 region3 route3 outer3 callee4 received4 regionOf routeOf calleeOf receivedOf leftOf roomy settled outcome answered answer
+unfolding has every some least count setOf without lowest size minus legal given used firstWith lookup precedes held preceded unpreceded next zoneFrom zoneList zoneFor zoneAt subscriber unused types sourceRows targetRows subscribers teaching symbol legalString padded dialled stringOf legalDialled routingAddress listOf endPart inRange listFits faultIn fault wellFormed digit allDigits numberFrom coded skipped afterCode writesAddress embedded dialled300 setupOf newSetup boxOf firstBox foundBox interfaceAt target1 placeOf stands before suffixAfter zone2 route2 region3 route3 outer3 callee4 received4 regionOf routeOf calleeOf receivedOf leftOf roomy settledBy outcomeBy answered answerBy
 p10-556-routes = rw teaching-sound
 
 p10-555-routes : routes (newSetup 555 [] 555) (Trunk 40 555) (receivedNoString 555 555) 0
-unfolding has every some least count setOf without lowest size minus legal given used firstWith lookup precedes held preceded unpreceded next zoneFrom zoneList zoneFor zoneAt subscriber unused types sourceRows targetRows subscribers teaching symbol legalString padded dialled stringOf legalDialled routingAddress listOf endPart inRange listFits faultIn fault wellFormed digit allDigits numberFrom coded skipped afterCode writesAddress embedded dialled300 setupOf newSetup boxOf firstBox foundBox interfaceAt target1 placeOf stands before suffixAfter zone2 route2 region3 route3 outer3 callee4 received4 regionOf routeOf calleeOf receivedOf leftOf roomy settled outcome answered answer
+unfolding has every some least count setOf without lowest size minus legal given used firstWith lookup precedes held preceded unpreceded next zoneFrom zoneList zoneFor zoneAt subscriber unused types sourceRows targetRows subscribers teaching symbol legalString padded dialled stringOf legalDialled routingAddress listOf endPart inRange listFits faultIn fault wellFormed digit allDigits numberFrom coded skipped afterCode writesAddress embedded dialled300 setupOf newSetup boxOf firstBox foundBox interfaceAt target1 placeOf stands before suffixAfter zone2 route2 region3 route3 outer3 callee4 received4 regionOf routeOf calleeOf receivedOf leftOf roomy settledBy outcomeBy answered answerBy
 p10-555-routes = rw teaching-sound
 
 p8-makes : reversedAnswer teaching (FeatureBox 4 200) p8Stored 0 [] 0 ≡ made (setupOf Target 300 200 Suffix [] (PlacedBy 4) NoOuter)
@@ -88,15 +88,15 @@ unfolding p8Sent
 p8-makes = p8-made
 
 p10-makes-900 : newAnswer teaching (TrunkBox 555) [] 900 ≡ made (newSetup 555 [] 900)
-unfolding has every legal given least used firstWith lookup held subscriber unused types subscribers teaching symbol legalString newOutcome madeAnswered
+unfolding has every legal given least used firstWith lookup held subscriber unused types subscribers teaching symbol legalString newOutcomeBy madeAnswered
 p10-makes-900 = rw teaching-sound
 
 p10-makes-556 : newAnswer teaching (TrunkBox 555) [] 556 ≡ made (newSetup 555 [] 556)
-unfolding has every legal given least used firstWith lookup held subscriber unused types subscribers teaching symbol legalString newOutcome madeAnswered
+unfolding has every legal given least used firstWith lookup held subscriber unused types subscribers teaching symbol legalString newOutcomeBy madeAnswered
 p10-makes-556 = rw teaching-sound
 
 p10-makes-555 : newAnswer teaching (TrunkBox 555) [] 555 ≡ made (newSetup 555 [] 555)
-unfolding has every legal given least used firstWith lookup held subscriber unused types subscribers teaching symbol legalString newOutcome madeAnswered
+unfolding has every legal given least used firstWith lookup held subscriber unused types subscribers teaching symbol legalString newOutcomeBy madeAnswered
 p10-makes-555 = rw teaching-sound
 
 pub thirteen : Thirteen

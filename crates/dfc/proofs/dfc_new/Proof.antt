@@ -14,8 +14,8 @@ enum-told c = search needs
 maker-of-requires : tie.Need-maker-of-requires
 maker-of-requires c κs = search needs
 
-new-setup-requires : tie.Need-new-setup-requires
-new-setup-requires c κs = search needs
+new-tested-requires : tie.Need-new-tested-requires
+new-tested-requires c κs = search needs
 
 handed-requires : tie.Need-handed-requires
 handed-requires c κs = search needs
@@ -29,8 +29,8 @@ refused-requires c κs = search needs
 returns : tie.Need-returns
 unfolding making roomMaking newOver
 returns c = (
-  rw (← c .before .before .before .before .before .before .before .read .ensures .0, c .before .before .before .before .enum-told .given .1, ← c .before .before .before .maker-of .ensures, ← c .before .before .new-setup .ensures .0) (c .handed .ensures .0),
-  rw (← c .before .before .before .before .before .before .before .read .ensures .0, c .before .before .before .before .enum-told .given .1, ← c .before .before .before .maker-of .ensures, ← c .before .before .new-setup .ensures .0) (c .handed .ensures .1),
+  rw (← c .before .before .before .before .before .before .before .read .ensures .0, c .before .before .before .before .enum-told .given .1, c .before .before .before .before .before .before .before .read .ensures .1 (c .before .before .before .before .enum-told .given .1), ← c .before .before .before .maker-of .ensures, ← c .before .before .new-tested .ensures) (c .handed .ensures .0),
+  rw (← c .before .before .before .before .before .before .before .read .ensures .0, c .before .before .before .before .enum-told .given .1, c .before .before .before .before .before .before .before .read .ensures .1 (c .before .before .before .before .enum-told .given .1), ← c .before .before .before .maker-of .ensures, ← c .before .before .new-tested .ensures) (c .handed .ensures .1),
 )
 
 returns-2 : tie.Need-returns-2
@@ -44,7 +44,7 @@ dfc-new-spec =
     read-requires
     enum-told
     maker-of-requires
-    new-setup-requires
+    new-tested-requires
     handed-requires
     enum-known-verdict
     refused-requires

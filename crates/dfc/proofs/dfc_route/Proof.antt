@@ -14,8 +14,8 @@ enum-told c = search needs
 setup-in-requires : tie.Need-setup-in-requires
 setup-in-requires c κs = search needs
 
-route-requires : tie.Need-route-requires
-route-requires c κs = search needs
+route-tested-requires : tie.Need-route-tested-requires
+route-tested-requires c κs = search needs
 
 received-requires : tie.Need-received-requires
 received-requires c κs = search needs
@@ -35,10 +35,10 @@ same-length-2 c = search needs
 returns : tie.Need-returns
 unfolding routed roomRouted sourceRouted targetRouted
 returns c = (
-  rw (← c .before .before .before .before .before .before .before .before .before .before .before .before .before .read .ensures .0, c .before .before .before .before .before .before .before .before .before .before .enum-told .given .1, ← c .before .before .before .before .before .before .before .before .before .setup-in .ensures, ← c .before .before .before .before .before .before .route .ensures .0) (c .received .ensures .0),
-  rw (← c .before .before .before .before .before .before .before .before .before .before .before .before .before .read .ensures .0, c .before .before .before .before .before .before .before .before .before .before .enum-told .given .1, ← c .before .before .before .before .before .before .before .before .before .setup-in .ensures) (c .before .before .before .before .before .before .route .ensures .1),
-  rw (← c .before .before .before .before .before .before .before .before .before .before .before .before .before .read .ensures .0, c .before .before .before .before .before .before .before .before .before .before .enum-told .given .1, ← c .before .before .before .before .before .before .before .before .before .setup-in .ensures) (c .before .before .before .before .before .before .route .ensures .2),
-  rw (← c .before .before .before .before .before .before .before .before .before .before .before .before .before .read .ensures .0, c .before .before .before .before .before .before .before .before .before .before .enum-told .given .1, ← c .before .before .before .before .before .before .before .before .before .setup-in .ensures, ← c .before .before .before .before .before .before .route .ensures .0) (c .received .ensures .1),
+  rw (← c .before .before .before .before .before .before .before .before .before .before .before .before .before .read .ensures .0, c .before .before .before .before .before .before .before .before .before .before .enum-told .given .1, c .before .before .before .before .before .before .before .before .before .before .before .before .before .read .ensures .1 (c .before .before .before .before .before .before .before .before .before .before .enum-told .given .1), ← c .before .before .before .before .before .before .before .before .before .setup-in .ensures, ← c .before .before .before .before .before .before .route-tested .ensures .0) (c .received .ensures .0),
+  rw (← c .before .before .before .before .before .before .before .before .before .before .before .before .before .read .ensures .0, c .before .before .before .before .before .before .before .before .before .before .enum-told .given .1, c .before .before .before .before .before .before .before .before .before .before .before .before .before .read .ensures .1 (c .before .before .before .before .before .before .before .before .before .before .enum-told .given .1), ← c .before .before .before .before .before .before .before .before .before .setup-in .ensures) (c .before .before .before .before .before .before .route-tested .ensures .1),
+  rw (← c .before .before .before .before .before .before .before .before .before .before .before .before .before .read .ensures .0, c .before .before .before .before .before .before .before .before .before .before .enum-told .given .1, c .before .before .before .before .before .before .before .before .before .before .before .before .before .read .ensures .1 (c .before .before .before .before .before .before .before .before .before .before .enum-told .given .1), ← c .before .before .before .before .before .before .before .before .before .setup-in .ensures) (c .before .before .before .before .before .before .route-tested .ensures .2),
+  rw (← c .before .before .before .before .before .before .before .before .before .before .before .before .before .read .ensures .0, c .before .before .before .before .before .before .before .before .before .before .enum-told .given .1, c .before .before .before .before .before .before .before .before .before .before .before .before .before .read .ensures .1 (c .before .before .before .before .before .before .before .before .before .before .enum-told .given .1), ← c .before .before .before .before .before .before .before .before .before .setup-in .ensures, ← c .before .before .before .before .before .before .route-tested .ensures .0) (c .received .ensures .1),
 )
 
 returns-2 : tie.Need-returns-2
@@ -57,7 +57,7 @@ dfc-route-spec =
     read-requires
     enum-told
     setup-in-requires
-    route-requires
+    route-tested-requires
     received-requires
     enum-known-verdict
     not-routed-requires

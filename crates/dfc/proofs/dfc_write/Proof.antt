@@ -11,8 +11,8 @@ read-requires c κs = search needs
 enum-told : tie.Need-enum-told
 enum-told c = search needs
 
-write-requires : tie.Need-write-requires
-write-requires c κs = search needs
+write-tested-requires : tie.Need-write-tested-requires
+write-tested-requires c κs = search needs
 
 written-said-requires : tie.Need-written-said-requires
 written-said-requires c κs = search needs
@@ -29,8 +29,8 @@ same-length c = search needs
 returns : tie.Need-returns
 unfolding rewritten roomRewritten
 returns c = (
-  rw (← c .before .before .before .before .before .before .before .before .read .ensures .0, c .before .before .before .before .before .enum-told .given .1, ← c .before .before .before .write .ensures .0 .0) (c .written-said .ensures),
-  rw (← c .before .before .before .before .before .before .before .before .read .ensures .0, c .before .before .before .before .before .enum-told .given .1) (c .before .before .before .write .ensures .0 .1),
+  rw (← c .before .before .before .before .before .before .before .before .read .ensures .0, c .before .before .before .before .before .enum-told .given .1, c .before .before .before .before .before .before .before .before .read .ensures .1 (c .before .before .before .before .before .enum-told .given .1), ← c .before .before .before .write-tested .ensures .0) (c .written-said .ensures),
+  rw (← c .before .before .before .before .before .before .before .before .read .ensures .0, c .before .before .before .before .before .enum-told .given .1, c .before .before .before .before .before .before .before .before .read .ensures .1 (c .before .before .before .before .before .enum-told .given .1)) (c .before .before .before .write-tested .ensures .1),
 )
 
 returns-2 : tie.Need-returns-2
@@ -43,7 +43,7 @@ dfc-write-spec =
     (tie.spec
     read-requires
     enum-told
-    write-requires
+    write-tested-requires
     written-said-requires
     enum-known-verdict
     refused-requires

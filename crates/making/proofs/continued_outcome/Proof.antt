@@ -1,8 +1,8 @@
 -- `making::continued_outcome` meets its contract: the tests one by one. Assumes nothing.
 use Rattle.typeset.proofs.Bools.{passed, failed}
-use mathlib.Core.Path.{sym, _∙_}
+use mathlib.Core.Path.{refl, sym, _∙_}
 use borrow.Author.Tests.{eq-eqb, ne-eqb}
-use Rattle.making.specs.Making.{continuedOutcome}
+use Rattle.making.specs.Making.{continuedOutcome, continuedOutcomeBy}
 use borrow.Author.Needs.{needs}
 use Rattle.making.proofs.continued_outcome.Statement.{statement}
 use Rattle.making.proofs.continued_outcome.Tie as tie
@@ -10,26 +10,23 @@ use Rattle.making.proofs.continued_outcome.Tie as tie
 box-address-requires : tie.Need-box-address-requires
 box-address-requires c κs = search needs
 
-sound-requires : tie.Need-sound-requires
-sound-requires c κs = search needs
-
 returns : tie.Need-returns
-unfolding continuedOutcome
+unfolding continuedOutcomeBy
 returns c =
     rw (
-      ← c .before .before .box-address .ensures,
-      failed (c .before .sound .ensures) (c .if1 .taken),
+      ← c .before .box-address .ensures,
+      failed {b = c .before .before .before .args .kept} refl (c .if1 .taken),
     )
 
 type-exists-requires : tie.Need-type-exists-requires
 type-exists-requires c κs = search needs
 
 returns-2 : tie.Need-returns-2
-unfolding continuedOutcome
+unfolding continuedOutcomeBy
 returns-2 c =
     rw (
-      ← c .before .before .before .before .box-address .ensures,
-      passed (c .before .before .before .sound .ensures) (c .before .before .if1 .left),
+      ← c .before .before .before .box-address .ensures,
+      passed {b = c .before .before .before .before .before .args .kept} refl (c .before .before .if1 .left),
       failed (c .before .type-exists .ensures) (c .if2 .taken),
     )
 
@@ -37,11 +34,11 @@ makes-more-requires : tie.Need-makes-more-requires
 makes-more-requires c κs = search needs
 
 returns-3 : tie.Need-returns-3
-unfolding continuedOutcome
+unfolding continuedOutcomeBy
 returns-3 c =
     rw (
-      ← c .before .before .before .before .before .before .box-address .ensures,
-      passed (c .before .before .before .before .before .sound .ensures) (c .before .before .before .before .if1 .left),
+      ← c .before .before .before .before .before .box-address .ensures,
+      passed {b = c .before .before .before .before .before .before .before .args .kept} refl (c .before .before .before .before .if1 .left),
       passed (c .before .before .before .type-exists .ensures) (c .before .before .if2 .left),
       failed (c .before .makes-more .ensures) (c .if3 .taken),
     )
@@ -50,11 +47,11 @@ address-held-requires : tie.Need-address-held-requires
 address-held-requires c κs = search needs
 
 returns-4 : tie.Need-returns-4
-unfolding continuedOutcome
+unfolding continuedOutcomeBy
 returns-4 c =
     rw (
-      ← c .before .before .before .before .before .before .before .before .box-address .ensures,
-      passed (c .before .before .before .before .before .before .before .sound .ensures) (c .before .before .before .before .before .before .if1 .left),
+      ← c .before .before .before .before .before .before .before .box-address .ensures,
+      passed {b = c .before .before .before .before .before .before .before .before .before .args .kept} refl (c .before .before .before .before .before .before .if1 .left),
       passed (c .before .before .before .before .before .type-exists .ensures) (c .before .before .before .before .if2 .left),
       passed (c .before .before .before .makes-more .ensures) (c .before .before .if3 .left),
       failed (c .before .address-held .ensures) (c .if4 .taken),
@@ -64,11 +61,11 @@ continuable-requires : tie.Need-continuable-requires
 continuable-requires c κs = search needs
 
 returns-5 : tie.Need-returns-5
-unfolding continuedOutcome
+unfolding continuedOutcomeBy
 returns-5 c =
     rw (
-      ← c .before .before .before .before .before .before .before .before .before .before .box-address .ensures,
-      passed (c .before .before .before .before .before .before .before .before .before .sound .ensures) (c .before .before .before .before .before .before .before .before .if1 .left),
+      ← c .before .before .before .before .before .before .before .before .before .box-address .ensures,
+      passed {b = c .before .before .before .before .before .before .before .before .before .before .before .args .kept} refl (c .before .before .before .before .before .before .before .before .if1 .left),
       passed (c .before .before .before .before .before .before .before .type-exists .ensures) (c .before .before .before .before .before .before .if2 .left),
       passed (c .before .before .before .before .before .makes-more .ensures) (c .before .before .before .before .if3 .left),
       passed (c .before .before .before .address-held .ensures) (c .before .before .if4 .left),
@@ -79,11 +76,11 @@ routing-address-requires : tie.Need-routing-address-requires
 routing-address-requires c κs = search needs
 
 returns-6 : tie.Need-returns-6
-unfolding continuedOutcome
+unfolding continuedOutcomeBy
 returns-6 c =
     rw (
-      ← c .before .before .before .before .before .before .before .before .before .before .before .before .box-address .ensures,
-      passed (c .before .before .before .before .before .before .before .before .before .before .before .sound .ensures) (c .before .before .before .before .before .before .before .before .before .before .if1 .left),
+      ← c .before .before .before .before .before .before .before .before .before .before .before .box-address .ensures,
+      passed {b = c .before .before .before .before .before .before .before .before .before .before .before .before .before .args .kept} refl (c .before .before .before .before .before .before .before .before .before .before .if1 .left),
       passed (c .before .before .before .before .before .before .before .before .before .type-exists .ensures) (c .before .before .before .before .before .before .before .before .if2 .left),
       passed (c .before .before .before .before .before .before .before .makes-more .ensures) (c .before .before .before .before .before .before .if3 .left),
       passed (c .before .before .before .before .before .address-held .ensures) (c .before .before .before .before .if4 .left),
@@ -95,11 +92,11 @@ legal-string-requires : tie.Need-legal-string-requires
 legal-string-requires c κs = search needs
 
 returns-7 : tie.Need-returns-7
-unfolding continuedOutcome
+unfolding continuedOutcomeBy
 returns-7 c =
     rw (
-      ← c .before .before .before .before .before .before .before .before .before .before .before .before .before .before .box-address .ensures,
-      passed (c .before .before .before .before .before .before .before .before .before .before .before .before .before .sound .ensures) (c .before .before .before .before .before .before .before .before .before .before .before .before .if1 .left),
+      ← c .before .before .before .before .before .before .before .before .before .before .before .before .before .box-address .ensures,
+      passed {b = c .before .before .before .before .before .before .before .before .before .before .before .before .before .before .before .args .kept} refl (c .before .before .before .before .before .before .before .before .before .before .before .before .if1 .left),
       passed (c .before .before .before .before .before .before .before .before .before .before .before .type-exists .ensures) (c .before .before .before .before .before .before .before .before .before .before .if2 .left),
       passed (c .before .before .before .before .before .before .before .before .before .makes-more .ensures) (c .before .before .before .before .before .before .before .before .if3 .left),
       passed (c .before .before .before .before .before .before .before .address-held .ensures) (c .before .before .before .before .before .before .if4 .left),
@@ -112,11 +109,11 @@ not-own-requires : tie.Need-not-own-requires
 not-own-requires c κs = search needs
 
 returns-8 : tie.Need-returns-8
-unfolding continuedOutcome
+unfolding continuedOutcomeBy
 returns-8 c =
     rw (
-      ← c .before .before .before .before .before .before .before .before .before .before .before .before .before .before .before .before .box-address .ensures,
-      passed (c .before .before .before .before .before .before .before .before .before .before .before .before .before .before .before .sound .ensures) (c .before .before .before .before .before .before .before .before .before .before .before .before .before .before .if1 .left),
+      ← c .before .before .before .before .before .before .before .before .before .before .before .before .before .before .before .box-address .ensures,
+      passed {b = c .before .before .before .before .before .before .before .before .before .before .before .before .before .before .before .before .before .args .kept} refl (c .before .before .before .before .before .before .before .before .before .before .before .before .before .before .if1 .left),
       passed (c .before .before .before .before .before .before .before .before .before .before .before .before .before .type-exists .ensures) (c .before .before .before .before .before .before .before .before .before .before .before .before .if2 .left),
       passed (c .before .before .before .before .before .before .before .before .before .before .before .makes-more .ensures) (c .before .before .before .before .before .before .before .before .before .before .if3 .left),
       passed (c .before .before .before .before .before .before .before .before .before .address-held .ensures) (c .before .before .before .before .before .before .before .before .if4 .left),
@@ -130,11 +127,11 @@ both-legal-requires : tie.Need-both-legal-requires
 both-legal-requires c κs = search needs
 
 returns-9 : tie.Need-returns-9
-unfolding continuedOutcome
+unfolding continuedOutcomeBy
 returns-9 c =
     rw (
-      ← c .before .before .before .before .before .before .before .before .before .before .before .before .before .before .before .before .before .before .box-address .ensures,
-      passed (c .before .before .before .before .before .before .before .before .before .before .before .before .before .before .before .before .before .sound .ensures) (c .before .before .before .before .before .before .before .before .before .before .before .before .before .before .before .before .if1 .left),
+      ← c .before .before .before .before .before .before .before .before .before .before .before .before .before .before .before .before .before .box-address .ensures,
+      passed {b = c .before .before .before .before .before .before .before .before .before .before .before .before .before .before .before .before .before .before .before .args .kept} refl (c .before .before .before .before .before .before .before .before .before .before .before .before .before .before .before .before .if1 .left),
       passed (c .before .before .before .before .before .before .before .before .before .before .before .before .before .before .before .type-exists .ensures) (c .before .before .before .before .before .before .before .before .before .before .before .before .before .before .if2 .left),
       passed (c .before .before .before .before .before .before .before .before .before .before .before .before .before .makes-more .ensures) (c .before .before .before .before .before .before .before .before .before .before .before .before .if3 .left),
       passed (c .before .before .before .before .before .before .before .before .before .before .before .address-held .ensures) (c .before .before .before .before .before .before .before .before .before .before .if4 .left),
@@ -146,11 +143,11 @@ returns-9 c =
     )
 
 returns-10 : tie.Need-returns-10
-unfolding continuedOutcome
+unfolding continuedOutcomeBy
 returns-10 c =
     rw (
-      ← c .before .before .before .before .before .before .before .before .before .before .before .before .before .before .before .before .before .before .box-address .ensures,
-      passed (c .before .before .before .before .before .before .before .before .before .before .before .before .before .before .before .before .before .sound .ensures) (c .before .before .before .before .before .before .before .before .before .before .before .before .before .before .before .before .if1 .left),
+      ← c .before .before .before .before .before .before .before .before .before .before .before .before .before .before .before .before .before .box-address .ensures,
+      passed {b = c .before .before .before .before .before .before .before .before .before .before .before .before .before .before .before .before .before .before .before .args .kept} refl (c .before .before .before .before .before .before .before .before .before .before .before .before .before .before .before .before .if1 .left),
       passed (c .before .before .before .before .before .before .before .before .before .before .before .before .before .before .before .type-exists .ensures) (c .before .before .before .before .before .before .before .before .before .before .before .before .before .before .if2 .left),
       passed (c .before .before .before .before .before .before .before .before .before .before .before .before .before .makes-more .ensures) (c .before .before .before .before .before .before .before .before .before .before .before .before .if3 .left),
       passed (c .before .before .before .before .before .before .before .before .before .before .before .address-held .ensures) (c .before .before .before .before .before .before .before .before .before .before .if4 .left),
@@ -166,7 +163,6 @@ continued-outcome-spec =
     tie.close
     (tie.spec
     box-address-requires
-    sound-requires
     returns
     type-exists-requires
     returns-2

@@ -1,25 +1,26 @@
 -- `making::new_outcome` meets its contract: the tests one by one. Assumes nothing.
+use mathlib.Core.Path.{refl}
 use Rattle.typeset.proofs.Bools.{passed, failed}
-use Rattle.making.specs.Making.{newOutcome}
+use Rattle.making.specs.Making.{newOutcome, newOutcomeBy}
 use borrow.Author.Needs.{needs}
 use Rattle.making.proofs.new_outcome.Statement.{statement}
 use Rattle.making.proofs.new_outcome.Tie as tie
 
-sound-requires : tie.Need-sound-requires
-sound-requires c κs = search needs
-
 returns : tie.Need-returns
-unfolding newOutcome
-returns c = rw (failed (c .before .sound .ensures) (c .if1 .taken))
+unfolding newOutcomeBy
+returns c =
+    let kept = failed {b = c .before .before .args .kept} refl (c .if1 .taken) in
+    rw kept
 
 type-exists-requires : tie.Need-type-exists-requires
 type-exists-requires c κs = search needs
 
 returns-2 : tie.Need-returns-2
-unfolding newOutcome
+unfolding newOutcomeBy
 returns-2 c =
+    let kept = passed {b = c .before .before .before .before .args .kept} refl (c .before .before .if1 .left) in
     rw (
-      passed (c .before .before .before .sound .ensures) (c .before .before .if1 .left),
+      kept,
       failed (c .before .type-exists .ensures) (c .if2 .taken),
     )
 
@@ -27,10 +28,11 @@ makes-new-requires : tie.Need-makes-new-requires
 makes-new-requires c κs = search needs
 
 returns-3 : tie.Need-returns-3
-unfolding newOutcome
+unfolding newOutcomeBy
 returns-3 c =
+    let kept = passed {b = c .before .before .before .before .before .before .args .kept} refl (c .before .before .before .before .if1 .left) in
     rw (
-      passed (c .before .before .before .before .before .sound .ensures) (c .before .before .before .before .if1 .left),
+      kept,
       passed (c .before .before .before .type-exists .ensures) (c .before .before .if2 .left),
       failed (c .before .makes-new .ensures) (c .if3 .taken),
     )
@@ -39,10 +41,11 @@ address-held-requires : tie.Need-address-held-requires
 address-held-requires c κs = search needs
 
 returns-4 : tie.Need-returns-4
-unfolding newOutcome
+unfolding newOutcomeBy
 returns-4 c =
+    let kept = passed {b = c .before .before .before .before .before .before .before .before .args .kept} refl (c .before .before .before .before .before .before .if1 .left) in
     rw (
-      passed (c .before .before .before .before .before .before .before .sound .ensures) (c .before .before .before .before .before .before .if1 .left),
+      kept,
       passed (c .before .before .before .before .before .type-exists .ensures) (c .before .before .before .before .if2 .left),
       passed (c .before .before .before .makes-new .ensures) (c .before .before .if3 .left),
       failed (c .before .address-held .ensures) (c .if4 .taken),
@@ -52,10 +55,11 @@ legal-string-requires : tie.Need-legal-string-requires
 legal-string-requires c κs = search needs
 
 returns-5 : tie.Need-returns-5
-unfolding newOutcome
+unfolding newOutcomeBy
 returns-5 c =
+    let kept = passed {b = c .before .before .before .before .before .before .before .before .before .before .args .kept} refl (c .before .before .before .before .before .before .before .before .if1 .left) in
     rw (
-      passed (c .before .before .before .before .before .before .before .before .before .sound .ensures) (c .before .before .before .before .before .before .before .before .if1 .left),
+      kept,
       passed (c .before .before .before .before .before .before .before .type-exists .ensures) (c .before .before .before .before .before .before .if2 .left),
       passed (c .before .before .before .before .before .makes-new .ensures) (c .before .before .before .before .if3 .left),
       passed (c .before .before .before .address-held .ensures) (c .before .before .if4 .left),
@@ -66,10 +70,11 @@ legal-requires : tie.Need-legal-requires
 legal-requires c κs = search needs
 
 returns-6 : tie.Need-returns-6
-unfolding newOutcome
+unfolding newOutcomeBy
 returns-6 c =
+    let kept = passed {b = c .before .before .before .before .before .before .before .before .before .before .before .before .args .kept} refl (c .before .before .before .before .before .before .before .before .before .before .if1 .left) in
     rw (
-      passed (c .before .before .before .before .before .before .before .before .before .before .before .sound .ensures) (c .before .before .before .before .before .before .before .before .before .before .if1 .left),
+      kept,
       passed (c .before .before .before .before .before .before .before .before .before .type-exists .ensures) (c .before .before .before .before .before .before .before .before .if2 .left),
       passed (c .before .before .before .before .before .before .before .makes-new .ensures) (c .before .before .before .before .before .before .if3 .left),
       passed (c .before .before .before .before .before .address-held .ensures) (c .before .before .before .before .if4 .left),
@@ -78,10 +83,11 @@ returns-6 c =
     )
 
 returns-7 : tie.Need-returns-7
-unfolding newOutcome
+unfolding newOutcomeBy
 returns-7 c =
+    let kept = passed {b = c .before .before .before .before .before .before .before .before .before .before .before .before .args .kept} refl (c .before .before .before .before .before .before .before .before .before .before .if1 .left) in
     rw (
-      passed (c .before .before .before .before .before .before .before .before .before .before .before .sound .ensures) (c .before .before .before .before .before .before .before .before .before .before .if1 .left),
+      kept,
       passed (c .before .before .before .before .before .before .before .before .before .type-exists .ensures) (c .before .before .before .before .before .before .before .before .if2 .left),
       passed (c .before .before .before .before .before .before .before .makes-new .ensures) (c .before .before .before .before .before .before .if3 .left),
       passed (c .before .before .before .before .before .address-held .ensures) (c .before .before .before .before .if4 .left),
@@ -93,7 +99,6 @@ pub new-outcome-spec : {M : Type 1} → statement M
 new-outcome-spec =
     tie.close
     (tie.spec
-    sound-requires
     returns
     type-exists-requires
     returns-2

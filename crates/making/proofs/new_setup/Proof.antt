@@ -1,41 +1,23 @@
--- `making::new_setup` meets its contract. Assumes nothing.
-use mathlib.Core.Path.{_≡_, ap, ap₂, _∙_}
-use Rattle.making.specs.Making.{boxAddress, newSetup, newOutcome, answered, newAnswer}
-use Rattle.making.proofs.Outcomes.{answered-alike, legal-all, new-made}
+-- `making::new_setup` meets its contract: it hands on the verdict that it has found. Assumes nothing.
+use mathlib.Core.Path.{_≡_}
+use Rattle.making.specs.Making.{newAnswer}
 use Rattle.making.proofs.Numbered.{new-said}
-use mathlib.Core.List.{List}
-use Prim.Native.Nat.{ℕ}
-use lib.ListN.{take}
 use borrow.Author.Needs.{needs}
 use Rattle.making.proofs.new_setup.Statement.{statement}
 use Rattle.making.proofs.new_setup.Tie as tie
 
-new-outcome-requires : tie.Need-new-outcome-requires
-new-outcome-requires c κs = search needs
+sound-requires : tie.Need-sound-requires
+sound-requires c κs = search needs
 
-box-address-requires : tie.Need-box-address-requires
-box-address-requires c κs = search needs
-
-new-of-requires : tie.Need-new-of-requires
-new-of-requires c κs = search needs
-
-answered-requires : tie.Need-answered-requires
-answered-requires c κs = search needs
+new-tested-requires : tie.Need-new-tested-requires
+new-tested-requires c κs = search needs
 
 returns : tie.Need-returns
 returns c =
-    let a = c .before .before .before .before .before .args in
+    let a = c .before .before .before .args in
     let s = a .string .now in
-    let outcome = c .before .before .before .new-outcome .ensures in
-    let made : c .before .new-of .result ≡ newSetup (boxAddress (a .maker)) (take 32 s) (a .target-arg) = rw (← c .before .before .box-address .ensures) (c .before .new-of .ensures) in
-    let exact : c .answered .result ≡ newAnswer (a .plan) (a .maker) s (a .target-arg) =
-    c .answered .ensures
-    ∙ ap₂ answered outcome made
-    ∙ answered-alike (newOutcome (a .plan) (a .maker) s (a .target-arg)) _ _ (λ e.
-    ap (λ (l : List ℕ). newSetup (boxAddress (a .maker)) l (a .target-arg)) (legal-all s (new-made (a .plan) (a .maker) s (a .target-arg) e .string-legal))) in
-    (exact, new-said (a .plan) (a .maker) s (a .target-arg) (c .answered .result) exact)
+    let exact : c .new-tested .result ≡ newAnswer (a .plan) (a .maker) s (a .target-arg) = rw (c .before .sound .ensures) at (c .new-tested .ensures) in
+    (exact, new-said (a .plan) (a .maker) s (a .target-arg) (c .new-tested .result) exact)
 
 pub new-setup-spec : {M : Type 1} → statement M
-new-setup-spec =
-    tie.close
-    (tie.spec new-outcome-requires box-address-requires new-of-requires answered-requires returns)
+new-setup-spec = tie.close (tie.spec sound-requires new-tested-requires returns)

@@ -1,6 +1,7 @@
 -- `making::reversed_outcome` meets its contract: the tests one by one. Assumes nothing.
+use mathlib.Core.Path.{refl}
 use Rattle.typeset.proofs.Bools.{passed, failed}
-use Rattle.making.specs.Making.{reversedOutcome}
+use Rattle.making.specs.Making.{reversedOutcome, reversedOutcomeBy}
 use borrow.Author.Needs.{needs}
 use Rattle.making.proofs.reversed_outcome.Statement.{statement}
 use Rattle.making.proofs.reversed_outcome.Tie as tie
@@ -11,28 +12,25 @@ box-address-requires c κs = search needs
 turned-requires : tie.Need-turned-requires
 turned-requires c κs = search needs
 
-sound-requires : tie.Need-sound-requires
-sound-requires c κs = search needs
-
 returns : tie.Need-returns
-unfolding reversedOutcome
+unfolding reversedOutcomeBy
 returns c =
     rw (
-      ← c .before .before .before .box-address .ensures,
-      ← c .before .before .turned .ensures,
-      failed (c .before .sound .ensures) (c .if1 .taken),
+      ← c .before .before .box-address .ensures,
+      ← c .before .turned .ensures,
+      failed {b = c .before .before .before .before .args .kept} refl (c .if1 .taken),
     )
 
 type-exists-requires : tie.Need-type-exists-requires
 type-exists-requires c κs = search needs
 
 returns-2 : tie.Need-returns-2
-unfolding reversedOutcome
+unfolding reversedOutcomeBy
 returns-2 c =
     rw (
-      ← c .before .before .before .before .before .box-address .ensures,
-      ← c .before .before .before .before .turned .ensures,
-      passed (c .before .before .before .sound .ensures) (c .before .before .if1 .left),
+      ← c .before .before .before .before .box-address .ensures,
+      ← c .before .before .before .turned .ensures,
+      passed {b = c .before .before .before .before .before .before .args .kept} refl (c .before .before .if1 .left),
       failed (c .before .type-exists .ensures) (c .if2 .taken),
     )
 
@@ -40,12 +38,12 @@ makes-more-requires : tie.Need-makes-more-requires
 makes-more-requires c κs = search needs
 
 returns-3 : tie.Need-returns-3
-unfolding reversedOutcome
+unfolding reversedOutcomeBy
 returns-3 c =
     rw (
-      ← c .before .before .before .before .before .before .before .box-address .ensures,
-      ← c .before .before .before .before .before .before .turned .ensures,
-      passed (c .before .before .before .before .before .sound .ensures) (c .before .before .before .before .if1 .left),
+      ← c .before .before .before .before .before .before .box-address .ensures,
+      ← c .before .before .before .before .before .turned .ensures,
+      passed {b = c .before .before .before .before .before .before .before .before .args .kept} refl (c .before .before .before .before .if1 .left),
       passed (c .before .before .before .type-exists .ensures) (c .before .before .if2 .left),
       failed (c .before .makes-more .ensures) (c .if3 .taken),
     )
@@ -54,12 +52,12 @@ address-held-requires : tie.Need-address-held-requires
 address-held-requires c κs = search needs
 
 returns-4 : tie.Need-returns-4
-unfolding reversedOutcome
+unfolding reversedOutcomeBy
 returns-4 c =
     rw (
-      ← c .before .before .before .before .before .before .before .before .before .box-address .ensures,
-      ← c .before .before .before .before .before .before .before .before .turned .ensures,
-      passed (c .before .before .before .before .before .before .before .sound .ensures) (c .before .before .before .before .before .before .if1 .left),
+      ← c .before .before .before .before .before .before .before .before .box-address .ensures,
+      ← c .before .before .before .before .before .before .before .turned .ensures,
+      passed {b = c .before .before .before .before .before .before .before .before .before .before .args .kept} refl (c .before .before .before .before .before .before .if1 .left),
       passed (c .before .before .before .before .before .type-exists .ensures) (c .before .before .before .before .if2 .left),
       passed (c .before .before .before .makes-more .ensures) (c .before .before .if3 .left),
       failed (c .before .address-held .ensures) (c .if4 .taken),
@@ -69,12 +67,12 @@ reversible-type-requires : tie.Need-reversible-type-requires
 reversible-type-requires c κs = search needs
 
 returns-5 : tie.Need-returns-5
-unfolding reversedOutcome
+unfolding reversedOutcomeBy
 returns-5 c =
     rw (
-      ← c .before .before .before .before .before .before .before .before .before .before .before .box-address .ensures,
-      ← c .before .before .before .before .before .before .before .before .before .before .turned .ensures,
-      passed (c .before .before .before .before .before .before .before .before .before .sound .ensures) (c .before .before .before .before .before .before .before .before .if1 .left),
+      ← c .before .before .before .before .before .before .before .before .before .before .box-address .ensures,
+      ← c .before .before .before .before .before .before .before .before .before .turned .ensures,
+      passed {b = c .before .before .before .before .before .before .before .before .before .before .before .before .args .kept} refl (c .before .before .before .before .before .before .before .before .if1 .left),
       passed (c .before .before .before .before .before .before .before .type-exists .ensures) (c .before .before .before .before .before .before .if2 .left),
       passed (c .before .before .before .before .before .makes-more .ensures) (c .before .before .before .before .if3 .left),
       passed (c .before .before .before .address-held .ensures) (c .before .before .if4 .left),
@@ -85,12 +83,12 @@ well-formed-requires : tie.Need-well-formed-requires
 well-formed-requires c κs = search needs
 
 returns-6 : tie.Need-returns-6
-unfolding reversedOutcome
+unfolding reversedOutcomeBy
 returns-6 c =
     rw (
-      ← c .before .before .before .before .before .before .before .before .before .before .before .before .before .box-address .ensures,
-      ← c .before .before .before .before .before .before .before .before .before .before .before .before .turned .ensures,
-      passed (c .before .before .before .before .before .before .before .before .before .before .before .sound .ensures) (c .before .before .before .before .before .before .before .before .before .before .if1 .left),
+      ← c .before .before .before .before .before .before .before .before .before .before .before .before .box-address .ensures,
+      ← c .before .before .before .before .before .before .before .before .before .before .before .turned .ensures,
+      passed {b = c .before .before .before .before .before .before .before .before .before .before .before .before .before .before .args .kept} refl (c .before .before .before .before .before .before .before .before .before .before .if1 .left),
       passed (c .before .before .before .before .before .before .before .before .before .type-exists .ensures) (c .before .before .before .before .before .before .before .before .if2 .left),
       passed (c .before .before .before .before .before .before .before .makes-more .ensures) (c .before .before .before .before .before .before .if3 .left),
       passed (c .before .before .before .before .before .address-held .ensures) (c .before .before .before .before .if4 .left),
@@ -102,12 +100,12 @@ legal-string-requires : tie.Need-legal-string-requires
 legal-string-requires c κs = search needs
 
 returns-7 : tie.Need-returns-7
-unfolding reversedOutcome
+unfolding reversedOutcomeBy
 returns-7 c =
     rw (
-      ← c .before .before .before .before .before .before .before .before .before .before .before .before .before .before .before .box-address .ensures,
-      ← c .before .before .before .before .before .before .before .before .before .before .before .before .before .before .turned .ensures,
-      passed (c .before .before .before .before .before .before .before .before .before .before .before .before .before .sound .ensures) (c .before .before .before .before .before .before .before .before .before .before .before .before .if1 .left),
+      ← c .before .before .before .before .before .before .before .before .before .before .before .before .before .before .box-address .ensures,
+      ← c .before .before .before .before .before .before .before .before .before .before .before .before .before .turned .ensures,
+      passed {b = c .before .before .before .before .before .before .before .before .before .before .before .before .before .before .before .before .args .kept} refl (c .before .before .before .before .before .before .before .before .before .before .before .before .if1 .left),
       passed (c .before .before .before .before .before .before .before .before .before .before .before .type-exists .ensures) (c .before .before .before .before .before .before .before .before .before .before .if2 .left),
       passed (c .before .before .before .before .before .before .before .before .before .makes-more .ensures) (c .before .before .before .before .before .before .before .before .if3 .left),
       passed (c .before .before .before .before .before .before .before .address-held .ensures) (c .before .before .before .before .before .before .if4 .left),
@@ -120,12 +118,12 @@ not-own-requires : tie.Need-not-own-requires
 not-own-requires c κs = search needs
 
 returns-8 : tie.Need-returns-8
-unfolding reversedOutcome
+unfolding reversedOutcomeBy
 returns-8 c =
     rw (
-      ← c .before .before .before .before .before .before .before .before .before .before .before .before .before .before .before .before .before .box-address .ensures,
-      ← c .before .before .before .before .before .before .before .before .before .before .before .before .before .before .before .before .turned .ensures,
-      passed (c .before .before .before .before .before .before .before .before .before .before .before .before .before .before .before .sound .ensures) (c .before .before .before .before .before .before .before .before .before .before .before .before .before .before .if1 .left),
+      ← c .before .before .before .before .before .before .before .before .before .before .before .before .before .before .before .before .box-address .ensures,
+      ← c .before .before .before .before .before .before .before .before .before .before .before .before .before .before .before .turned .ensures,
+      passed {b = c .before .before .before .before .before .before .before .before .before .before .before .before .before .before .before .before .before .before .args .kept} refl (c .before .before .before .before .before .before .before .before .before .before .before .before .before .before .if1 .left),
       passed (c .before .before .before .before .before .before .before .before .before .before .before .before .before .type-exists .ensures) (c .before .before .before .before .before .before .before .before .before .before .before .before .if2 .left),
       passed (c .before .before .before .before .before .before .before .before .before .before .before .makes-more .ensures) (c .before .before .before .before .before .before .before .before .before .before .if3 .left),
       passed (c .before .before .before .before .before .before .before .before .before .address-held .ensures) (c .before .before .before .before .before .before .before .before .if4 .left),
@@ -139,12 +137,12 @@ both-legal-requires : tie.Need-both-legal-requires
 both-legal-requires c κs = search needs
 
 returns-9 : tie.Need-returns-9
-unfolding reversedOutcome
+unfolding reversedOutcomeBy
 returns-9 c =
     rw (
-      ← c .before .before .before .before .before .before .before .before .before .before .before .before .before .before .before .before .before .before .before .box-address .ensures,
-      ← c .before .before .before .before .before .before .before .before .before .before .before .before .before .before .before .before .before .before .turned .ensures,
-      passed (c .before .before .before .before .before .before .before .before .before .before .before .before .before .before .before .before .before .sound .ensures) (c .before .before .before .before .before .before .before .before .before .before .before .before .before .before .before .before .if1 .left),
+      ← c .before .before .before .before .before .before .before .before .before .before .before .before .before .before .before .before .before .before .box-address .ensures,
+      ← c .before .before .before .before .before .before .before .before .before .before .before .before .before .before .before .before .before .turned .ensures,
+      passed {b = c .before .before .before .before .before .before .before .before .before .before .before .before .before .before .before .before .before .before .before .before .args .kept} refl (c .before .before .before .before .before .before .before .before .before .before .before .before .before .before .before .before .if1 .left),
       passed (c .before .before .before .before .before .before .before .before .before .before .before .before .before .before .before .type-exists .ensures) (c .before .before .before .before .before .before .before .before .before .before .before .before .before .before .if2 .left),
       passed (c .before .before .before .before .before .before .before .before .before .before .before .before .before .makes-more .ensures) (c .before .before .before .before .before .before .before .before .before .before .before .before .if3 .left),
       passed (c .before .before .before .before .before .before .before .before .before .before .before .address-held .ensures) (c .before .before .before .before .before .before .before .before .before .before .if4 .left),
@@ -156,12 +154,12 @@ returns-9 c =
     )
 
 returns-10 : tie.Need-returns-10
-unfolding reversedOutcome
+unfolding reversedOutcomeBy
 returns-10 c =
     rw (
-      ← c .before .before .before .before .before .before .before .before .before .before .before .before .before .before .before .before .before .before .before .box-address .ensures,
-      ← c .before .before .before .before .before .before .before .before .before .before .before .before .before .before .before .before .before .before .turned .ensures,
-      passed (c .before .before .before .before .before .before .before .before .before .before .before .before .before .before .before .before .before .sound .ensures) (c .before .before .before .before .before .before .before .before .before .before .before .before .before .before .before .before .if1 .left),
+      ← c .before .before .before .before .before .before .before .before .before .before .before .before .before .before .before .before .before .before .box-address .ensures,
+      ← c .before .before .before .before .before .before .before .before .before .before .before .before .before .before .before .before .before .turned .ensures,
+      passed {b = c .before .before .before .before .before .before .before .before .before .before .before .before .before .before .before .before .before .before .before .before .args .kept} refl (c .before .before .before .before .before .before .before .before .before .before .before .before .before .before .before .before .if1 .left),
       passed (c .before .before .before .before .before .before .before .before .before .before .before .before .before .before .before .type-exists .ensures) (c .before .before .before .before .before .before .before .before .before .before .before .before .before .before .if2 .left),
       passed (c .before .before .before .before .before .before .before .before .before .before .before .before .before .makes-more .ensures) (c .before .before .before .before .before .before .before .before .before .before .before .before .if3 .left),
       passed (c .before .before .before .before .before .before .before .before .before .before .before .address-held .ensures) (c .before .before .before .before .before .before .before .before .before .before .if4 .left),
@@ -178,7 +176,6 @@ reversed-outcome-spec =
     (tie.spec
     box-address-requires
     turned-requires
-    sound-requires
     returns
     type-exists-requires
     returns-2

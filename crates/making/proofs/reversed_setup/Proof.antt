@@ -1,51 +1,23 @@
--- `making::reversed_setup` meets its contract. Assumes nothing.
-use mathlib.Core.Path.{_≡_, ap, ap₂, _∙_}
-use Rattle.making.specs.Making.{boxAddress, boxType, reversedSetup, reversedOutcome, answered, reversedAnswer}
-use Rattle.making.proofs.Outcomes.{answered-alike, legal-all, reversed-made}
+-- `making::reversed_setup` meets its contract: it hands on the verdict that it has found. Assumes nothing.
+use mathlib.Core.Path.{_≡_}
+use Rattle.making.specs.Making.{reversedAnswer}
 use Rattle.making.proofs.Numbered.{reversed-said}
-use mathlib.Core.List.{List}
-use Prim.Native.Nat.{ℕ}
-use lib.ListN.{take}
 use borrow.Author.Needs.{needs}
 use Rattle.making.proofs.reversed_setup.Statement.{statement}
 use Rattle.making.proofs.reversed_setup.Tie as tie
 
-reversed-outcome-requires : tie.Need-reversed-outcome-requires
-reversed-outcome-requires c κs = search needs
+sound-requires : tie.Need-sound-requires
+sound-requires c κs = search needs
 
-box-type-requires : tie.Need-box-type-requires
-box-type-requires c κs = search needs
-
-box-address-requires : tie.Need-box-address-requires
-box-address-requires c κs = search needs
-
-reversed-of-requires : tie.Need-reversed-of-requires
-reversed-of-requires c κs = search needs
-
-answered-requires : tie.Need-answered-requires
-answered-requires c κs = search needs
+reversed-tested-requires : tie.Need-reversed-tested-requires
+reversed-tested-requires c κs = search needs
 
 returns : tie.Need-returns
 returns c =
-    let a = c .before .before .before .before .before .before .args in
+    let a = c .before .before .before .args in
     let s = a .string .now in
-    let outcome = c .before .before .before .before .reversed-outcome .ensures in
-    let made : c .before .reversed-of .result ≡ reversedSetup (boxType (a .maker)) (boxAddress (a .maker)) (a .s) (a .source-arg) (take 32 s) (a .target-arg) = rw (← c .before .before .before .box-type .ensures, ← c .before .before .box-address .ensures) (c .before .reversed-of .ensures) in
-    let exact : c .answered .result ≡ reversedAnswer (a .plan) (a .maker) (a .s) (a .source-arg) s (a .target-arg) =
-    c .answered .ensures
-    ∙ ap₂ answered outcome made
-    ∙ answered-alike (reversedOutcome (a .plan) (a .maker) (a .s) (a .source-arg) s (a .target-arg)) _ _ (λ e.
-    ap (λ (l : List ℕ). reversedSetup (boxType (a .maker)) (boxAddress (a .maker)) (a .s) (a .source-arg) l (a .target-arg))
-    (legal-all s (reversed-made (a .plan) (a .maker) (a .s) (a .source-arg) s (a .target-arg) e .string-legal))) in
-    (exact, reversed-said (a .plan) (a .maker) (a .s) (a .source-arg) s (a .target-arg) (c .answered .result) exact)
+    let exact : c .reversed-tested .result ≡ reversedAnswer (a .plan) (a .maker) (a .s) (a .source-arg) s (a .target-arg) = rw (c .before .sound .ensures) at (c .reversed-tested .ensures) in
+    (exact, reversed-said (a .plan) (a .maker) (a .s) (a .source-arg) s (a .target-arg) (c .reversed-tested .result) exact)
 
 pub reversed-setup-spec : {M : Type 1} → statement M
-reversed-setup-spec =
-    tie.close
-    (tie.spec
-    reversed-outcome-requires
-    box-type-requires
-    box-address-requires
-    reversed-of-requires
-    answered-requires
-    returns)
+reversed-setup-spec = tie.close (tie.spec sound-requires reversed-tested-requires returns)

@@ -12,15 +12,15 @@ has-requires c κs = search needs
 mul-after : tie.Need-mul-after
 mul-after c = search needs
 
-array-read-after : tie.Need-array-read-after
-array-read-after c = has-below 32 _ (c .before .before .fits .row .fits) (sym (c .before .has .ensures) ∙ c .if1 .taken)
+element-copy-out-after : tie.Need-element-copy-out-after
+element-copy-out-after c = has-below 32 _ (c .before .before .fits .row .fits) (sym (c .before .has .ensures) ∙ c .if1 .taken)
 
 within-requires : tie.Need-within-requires
 within-requires c κs = search needs
 
 returns : tie.Need-returns
 unfolding carries
-returns c = rw (sym (c .before .before .has .ensures) ∙ c .before .if1 .taken) (c .within .ensures)
+returns c = rw (sym (c .before .before .before .has .ensures) ∙ c .before .before .if1 .taken) (c .within .ensures)
 
 returns-2 : tie.Need-returns-2
 unfolding carries
@@ -28,4 +28,4 @@ returns-2 c = rw (sym (c .before .has .ensures) ∙ c .if1 .left)
 
 pub carries-spec : {M : Type 1} → statement M
 carries-spec =
-    tie.close (tie.spec has-requires mul-after array-read-after within-requires returns returns-2)
+    tie.close (tie.spec has-requires mul-after element-copy-out-after within-requires returns returns-2)

@@ -18,8 +18,8 @@ returns c = rw (failed (c .before .two-of .ensures) (c .if1 .taken))
 mul-has : tie.Need-mul-has
 mul-has c = search needs
 
-array-read-has : tie.Need-array-read-has
-array-read-has c = search needs
+element-copy-out-has : tie.Need-element-copy-out-has
+element-copy-out-has c = search needs
 
 has-requires : tie.Need-has-requires
 has-requires c κs = search needs
@@ -27,8 +27,8 @@ has-requires c κs = search needs
 mul-has-2 : tie.Need-mul-has-2
 mul-has-2 c = search needs
 
-array-read-has-2 : tie.Need-array-read-has-2
-array-read-has-2 c = search needs
+element-copy-out-has-2 : tie.Need-element-copy-out-has-2
+element-copy-out-has-2 c = search needs
 
 has-requires-2 : tie.Need-has-requires-2
 has-requires-2 c κs = search needs
@@ -38,7 +38,7 @@ same-requires c κs = search needs
 
 returns-2 : tie.Need-returns-2
 unfolding pairOpposed precedes
-returns-2 c = rw (passed (c .before .before .before .before .two-of .ensures) (c .before .before .before .if1 .left), ← c .before .before .has .ensures, ← c .before .has2 .ensures) (c .same .ensures)
+returns-2 c = rw (passed (c .before .before .before .before .before .before .two-of .ensures) (c .before .before .before .before .before .if1 .left), ← c .before .before .before .has .ensures, ← c .before .has2 .ensures) (c .same .ensures)
 
 pub pair-opposed-spec : {M : Type 1} → statement M
 pair-opposed-spec =
@@ -47,10 +47,10 @@ pair-opposed-spec =
     two-of-requires
     returns
     mul-has
-    array-read-has
+    element-copy-out-has
     has-requires
     mul-has-2
-    array-read-has-2
+    element-copy-out-has-2
     has-requires-2
     same-requires
     returns-2)

@@ -17,28 +17,28 @@ returns c = rw (failed (c .before .two-of .ensures) (c .if1 .taken))
 mul-has : tie.Need-mul-has
 mul-has c = search needs
 
-array-read-has : tie.Need-array-read-has
-array-read-has c = search needs
+element-copy-out-has : tie.Need-element-copy-out-has
+element-copy-out-has c = search needs
 
 has-requires : tie.Need-has-requires
 has-requires c κs = search needs
 
 returns-2 : tie.Need-returns-2
 unfolding pairOrdered precedes
-returns-2 c = rw (passed (c .before .before .before .two-of .ensures) (c .before .before .if1 .left), sym (c .before .has .ensures) ∙ c .if2 .taken)
+returns-2 c = rw (passed (c .before .before .before .before .two-of .ensures) (c .before .before .before .if1 .left), sym (c .before .has .ensures) ∙ c .if2 .taken)
 
 mul-has-2 : tie.Need-mul-has-2
 mul-has-2 c = search needs
 
-array-read-has-2 : tie.Need-array-read-has-2
-array-read-has-2 c = search needs
+element-copy-out-has-2 : tie.Need-element-copy-out-has-2
+element-copy-out-has-2 c = search needs
 
 has-requires-2 : tie.Need-has-requires-2
 has-requires-2 c κs = search needs
 
 returns-3 : tie.Need-returns-3
 unfolding pairOrdered precedes
-returns-3 c = rw (passed (c .before .before .before .before .two-of .ensures) (c .before .before .before .if1 .left), sym (c .before .before .has .ensures) ∙ c .before .if2 .left) (c .has2 .ensures)
+returns-3 c = rw (passed (c .before .before .before .before .before .before .two-of .ensures) (c .before .before .before .before .before .if1 .left), sym (c .before .before .before .has .ensures) ∙ c .before .before .if2 .left) (c .has2 .ensures)
 
 pub pair-ordered-spec : {M : Type 1} → statement M
 pair-ordered-spec =
@@ -47,10 +47,10 @@ pair-ordered-spec =
     two-of-requires
     returns
     mul-has
-    array-read-has
+    element-copy-out-has
     has-requires
     returns-2
     mul-has-2
-    array-read-has-2
+    element-copy-out-has-2
     has-requires-2
     returns-3)

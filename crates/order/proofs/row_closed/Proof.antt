@@ -8,7 +8,7 @@ use Rattle.order.proofs.row_closed.Tie as tie
 returns : tie.Need-returns
 returns c =
     let none : c .before .args .row ≡ 0 = search needs in
-    rw none (sym (closed-empty (c .before .args .rows)))
+    rw none (sym (closed-empty (c .before .args .rows .now)))
 
 closed-requires : tie.Need-closed-requires
 closed-requires c κs = search needs

@@ -9,8 +9,8 @@ use Rattle.order.proofs.row_sound.Tie as tie
 mul-row : tie.Need-mul-row
 mul-row c = search needs
 
-array-read-row : tie.Need-array-read-row
-array-read-row c = search needs
+element-copy-out-row : tie.Need-element-copy-out-row
+element-copy-out-row c = search needs
 
 within-requires : tie.Need-within-requires
 within-requires c κs = search needs
@@ -55,7 +55,7 @@ row-sound-spec =
     tie.close
     (tie.spec
     mul-row
-    array-read-row
+    element-copy-out-row
     within-requires
     returns
     empty-unless-requires

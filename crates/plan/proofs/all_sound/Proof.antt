@@ -8,8 +8,8 @@ use Rattle.typeset.proofs.Bools.{passed, failed}
 use Rattle.typeset.specs.Sets.{every}
 use Rattle.typeset.proofs.Below.{every-none, every-more, every-no}
 use Rattle.plan.specs.Sound.{subscriberSound}
-use Rattle.plan.proofs.Numbers.{Taken, taken-none, taken-next}
-use Rattle.plan.proofs.Subscribers.{above-code, fits-code}
+use Rattle.plan.proofs.Numbers.{Taken, taken-none}
+use Rattle.plan.proofs.Subscribers.{above-code, fits-code, table-next}
 use Rattle.plan.proofs.all_sound.Statement.{statement}
 use Rattle.plan.proofs.all_sound.Tie as tie
 
@@ -85,16 +85,13 @@ loop-again : tie.Need-loop-again Inv-loop μ-loop
 unfolding subscriberSound
 loop-again c =
     let own = passed (c .before .before .before .before .before .before .before .before .own-sound .ensures) (c .before .before .before .before .before .before .before .if1 .left) in
-    let i = c .before .before .before .before .before .before .before .before .before .before .before .before .before .loop .inv in (
-      search needs,
-      every-more _ _ (i .1)
-          (rw (
-            own,
-            passed (above-code (c .before .before .before .before .before .before .before .before .before .before .before .before .before .before .args .t2) (c .before .before .before .before .before .before .before .before .before .before .before .before .before .loop .i) (c .before .before .before .before .before .before .before .before .before .before .place-before .result) (c .before .before .before .before .before .before .before .before .before .before .place-before .ensures) (c .before .before .before .before .before .before .above .ensures)) (c .before .before .before .before .before .if2 .left),
-            passed (c .before .before .before .fits2 .ensures ∙ fits-code (c .before .before .before .before .before .before .before .before .before .before .before .before .before .before .args .t) (c .before .before .before .before .before .before .before .before .before .before .before .before .before .before .args .t2) (c .before .before .before .before .before .before .before .before .before .before .before .before .before .loop .i) (c .before .before .before .before .before .before .before .before .before .before .before .before .before .loop .inv .1) (c .before .before .before .before .before .before .before .before .before .before .before .before .before .loop .taken) (c .before .before .before .before .before .before .before .before .before .before .before .before .before .loop .inv .2) (own)) (c .before .before .if3 .left),
-          )),
-      rw (c .enter .ensures .0) (taken-next _ _ _ (c .enter .ensures .1) (i .2)),
-    )
+    let i = c .before .before .before .before .before .before .before .before .before .before .before .before .before .loop .inv in
+    let here : subscriberSound (c .before .before .before .before .before .before .before .before .before .before .before .before .before .before .args .t) (c .before .before .before .before .before .before .before .before .before .before .before .before .before .before .args .t2) (c .before .before .before .before .before .before .before .before .before .before .before .before .before .loop .i) ≡ true = rw (
+      own,
+      passed (above-code (c .before .before .before .before .before .before .before .before .before .before .before .before .before .before .args .t2) (c .before .before .before .before .before .before .before .before .before .before .before .before .before .loop .i) (c .before .before .before .before .before .before .before .before .before .before .place-before .result) (c .before .before .before .before .before .before .before .before .before .before .place-before .ensures) (c .before .before .before .before .before .before .above .ensures)) (c .before .before .before .before .before .if2 .left),
+      passed (c .before .before .before .fits2 .ensures ∙ fits-code (c .before .before .before .before .before .before .before .before .before .before .before .before .before .before .args .t) (c .before .before .before .before .before .before .before .before .before .before .before .before .before .before .args .t2) (c .before .before .before .before .before .before .before .before .before .before .before .before .before .loop .i) (c .before .before .before .before .before .before .before .before .before .before .before .before .before .loop .inv .1) (c .before .before .before .before .before .before .before .before .before .before .before .before .before .loop .taken) (c .before .before .before .before .before .before .before .before .before .before .before .before .before .loop .inv .2) (own)) (c .before .before .if3 .left),
+    ) in
+    (search needs, every-more _ _ (i .1) here, rw (c .enter .ensures .0) (table-next (c .before .before .before .before .before .before .before .before .before .before .before .before .before .before .args .t) (c .before .before .before .before .before .before .before .before .before .before .before .before .before .before .args .t2) (c .before .before .before .before .before .before .before .before .before .before .before .before .before .loop .i) (i .1) (c .before .before .before .before .before .before .before .before .before .before .before .before .before .loop .taken) (c .enter .ensures .1) (i .2) here))
 
 returns-4 : tie.Need-returns-4 Inv-loop μ-loop
 returns-4 c =

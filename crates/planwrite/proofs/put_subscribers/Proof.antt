@@ -66,7 +66,8 @@ returns c =
     let none = fields-done (c .before .before .before .args .t2) (c .before .before .before .args .count) in
     let empty = ap length none in
     let all = rw end at (c .before .loop .inv .2) in
-    (sym (put-none (c .before .before .before .args .put) (c .before .loop .room) (c .before .loop .at)) ∙ rw (end, none) at (c .before .loop .inv .3), omega arith, omega arith)
+    let long : length (c .before .before .before .args .t2) ≡ 256 = search needs in
+    (sym (put-none (c .before .before .before .args .put) (c .before .loop .room) (c .before .loop .at)) ∙ rw (end, none) at (c .before .loop .inv .3), omega arith, omega arith, long)
 
 pub put-subscribers-spec : {M : Type 1} → statement M
 put-subscribers-spec =

@@ -1,7 +1,8 @@
 -- `routing::settled` meets its contract. Assumes nothing.
 use mathlib.Core.Path.{_≡_, refl, sym, ap, _∙_}
 use Rattle.typeset.proofs.Bools.{passed, failed}
-use Rattle.routing.specs.Routing.{settled}
+use mathlib.Core.Bool.{true, false}
+use Rattle.routing.specs.Routing.{settledBy}
 use Rattle.routing.proofs.Zoned.{well-formed-zones}
 use borrow.Author.Needs.{needs}
 use Rattle.routing.proofs.settled.Statement.{statement}
@@ -10,55 +11,47 @@ use Rattle.routing.proofs.settled.Tie as tie
 zone-in-requires : tie.Need-zone-in-requires
 zone-in-requires c κs = search needs
 
-sound-requires : tie.Need-sound-requires
-sound-requires c κs = search needs
-
 returns : tie.Need-returns
-unfolding settled
-returns c = rw (failed (c .before .sound .ensures) (c .if1 .taken))
+unfolding settledBy
+returns c =
+    let kept : c .before .before .before .args .kept ≡ false = failed refl (c .if1 .taken) in
+    rw kept
 
 well-formed-in-requires : tie.Need-well-formed-in-requires
 well-formed-in-requires c κs = search needs
 
 returns-2 : tie.Need-returns-2
-unfolding settled
+unfolding settledBy
 returns-2 c =
-    let a = c .before .before .before .before .before .before .args in
-    let asked = c .before .before .before .before .before .before .pre in
-    let zone = rw (c .before .before .before .before .zone-in .ensures) at (c .before .well-formed-in .ensures) in
+    let a = c .before .before .before .before .before .args in
+    let asked = c .before .before .before .before .before .pre in
+    let zone = rw (c .before .before .before .zone-in .ensures) at (c .before .well-formed-in .ensures) in
     let same = zone ∙ well-formed-zones (a .plan) (a .out) (a .source-zone) (a .target-zone) (asked .0) (asked .1) in
-    rw (passed (c .before .before .before .sound .ensures) (c .before .before .if1 .left), failed same (c .if2 .taken))
+    let kept : a .kept ≡ true = passed refl (c .before .before .if1 .left) in
+    rw (kept, failed same (c .if2 .taken))
 
 roomy-requires : tie.Need-roomy-requires
 roomy-requires c κs = search needs
 
 returns-3 : tie.Need-returns-3
-unfolding settled
+unfolding settledBy
 returns-3 c =
-    let a = c .before .before .before .before .before .before .before .before .args in
-    let asked = c .before .before .before .before .before .before .before .before .pre in
-    let zone = rw (c .before .before .before .before .before .before .zone-in .ensures) at (c .before .before .before .well-formed-in .ensures) in
+    let a = c .before .before .before .before .before .before .before .args in
+    let asked = c .before .before .before .before .before .before .before .pre in
+    let zone = rw (c .before .before .before .before .before .zone-in .ensures) at (c .before .before .before .well-formed-in .ensures) in
     let same = zone ∙ well-formed-zones (a .plan) (a .out) (a .source-zone) (a .target-zone) (asked .0) (asked .1) in
-    rw (passed (c .before .before .before .before .before .sound .ensures) (c .before .before .before .before .if1 .left), passed same (c .before .before .if2 .left), failed (c .before .roomy .ensures) (c .if3 .taken))
+    let kept : a .kept ≡ true = passed refl (c .before .before .before .before .if1 .left) in
+    rw (kept, passed same (c .before .before .if2 .left), failed (c .before .roomy .ensures) (c .if3 .taken))
 
 returns-4 : tie.Need-returns-4
-unfolding settled
+unfolding settledBy
 returns-4 c =
-    let a = c .before .before .before .before .before .before .before .before .args in
-    let asked = c .before .before .before .before .before .before .before .before .pre in
-    let zone = rw (c .before .before .before .before .before .before .zone-in .ensures) at (c .before .before .before .well-formed-in .ensures) in
+    let a = c .before .before .before .before .before .before .before .args in
+    let asked = c .before .before .before .before .before .before .before .pre in
+    let zone = rw (c .before .before .before .before .before .zone-in .ensures) at (c .before .before .before .well-formed-in .ensures) in
     let same = zone ∙ well-formed-zones (a .plan) (a .out) (a .source-zone) (a .target-zone) (asked .0) (asked .1) in
-    rw (passed (c .before .before .before .before .before .sound .ensures) (c .before .before .before .before .if1 .left), passed same (c .before .before .if2 .left), passed (c .before .roomy .ensures) (c .if3 .left))
+    let kept : a .kept ≡ true = passed refl (c .before .before .before .before .if1 .left) in
+    rw (kept, passed same (c .before .before .if2 .left), passed (c .before .roomy .ensures) (c .if3 .left))
 
 pub settled-spec : {M : Type 1} → statement M
-settled-spec =
-    tie.close
-    (tie.spec
-    zone-in-requires
-    sound-requires
-    returns
-    well-formed-in-requires
-    returns-2
-    roomy-requires
-    returns-3
-    returns-4)
+settled-spec = tie.close (tie.spec zone-in-requires returns well-formed-in-requires returns-2 roomy-requires returns-3 returns-4)

@@ -1,0 +1,51 @@
+-- `planback::bytes` meets its contract. Assumes nothing.
+use mathlib.Core.Path.{_≡_}
+use Prim.Native.Nat.{_+_, _-_, _<_, _≤_}
+use native.Mathlib.Omega.{arith}
+use borrow.Author.Needs.{needs}
+use lib.ListN.{length, take}
+use Rattle.planbytes.specs.Numbers.{Below}
+use Rattle.planback.proofs.Ranges.{below-none, below-more, below-all}
+use Rattle.planback.proofs.bytes.Statement.{statement}
+use Rattle.planback.proofs.bytes.Tie as tie
+
+abbrev Inv-loop : tie.InvT-loop
+Inv-loop file i₀ i-end i = (i ≤ i-end) × (i-end ≡ length file) × Below 256 (take i file)
+
+abbrev μ-loop : tie.MeasureT-loop
+μ-loop file i₀ i-end i = i-end - i
+
+loop-holds : tie.Need-loop-holds Inv-loop μ-loop
+loop-holds c = (search needs, search needs, below-none 256 (c .before .args .file .now))
+
+shared-slice-read-narrow : tie.Need-shared-slice-read-narrow Inv-loop μ-loop
+shared-slice-read-narrow c = search needs
+
+narrow-requires : tie.Need-narrow-requires Inv-loop μ-loop
+narrow-requires c κs = search needs
+
+add-i : tie.Need-add-i Inv-loop μ-loop
+add-i c = search needs
+
+loop-less : tie.Need-loop-less Inv-loop μ-loop
+loop-less c = search needs
+
+loop-again : tie.Need-loop-again Inv-loop μ-loop
+loop-again c = (search needs, search needs, below-more 256 (c .before .before .before .before .before .args .file .now) (c .before .before .before .loop .i) (omega arith) (c .before .before .before .loop .inv .2) (c .narrow .ensures))
+
+returns : tie.Need-returns Inv-loop μ-loop
+returns c = below-all 256 (c .before .before .before .args .file .now) (c .before .loop .i) (omega arith) (c .before .loop .inv .2)
+
+pub bytes-spec : {M : Type 1} → statement M
+bytes-spec =
+    tie.close
+    (tie.spec
+    Inv-loop
+    μ-loop
+    loop-holds
+    shared-slice-read-narrow
+    narrow-requires
+    add-i
+    loop-less
+    loop-again
+    returns)
