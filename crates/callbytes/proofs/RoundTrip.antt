@@ -5,12 +5,12 @@ use Prim.Native.Nat.{ℕ, zero, suc, _+_, _*_, _≤_, _<_}
 use native.Mathlib.Omega.{arith}
 use lib.ListN.{length, getD, take, drop, length-append}
 use lib.Seq.{getD-take, getD-append-add, getD-append-seam, getD-at, length-take-le}
-use Rattle.call.specs.declared.State.{State}
-use Rattle.call.specs.declared.State.the-variants.{Idle, Requesting, Waiting, Linked, Unlinking}
-use Rattle.call.specs.declared.Status.{Status}
-use Rattle.call.specs.declared.Status.the-variants.{Unknown, Avail, Unavail, None, Dtmf, Special}
-use Rattle.call.specs.declared.Signal.{Signal}
-use Rattle.call.specs.declared.Signal.the-variants.{Upack, Ordinary, Teardown, Downack}
+use Rattle.ends.specs.declared.State.{State}
+use Rattle.ends.specs.declared.State.the-variants.{Idle, Requesting, Waiting, Linked, Unlinking}
+use Rattle.ends.specs.declared.Status.{Status}
+use Rattle.ends.specs.declared.Status.the-variants.{Unknown, Avail, Unavail, None, Dtmf, Special}
+use Rattle.ends.specs.declared.Signal.{Signal}
+use Rattle.ends.specs.declared.Signal.the-variants.{Upack, Ordinary, Teardown, Downack}
 use Rattle.call.specs.declared.Slot.{Slot}
 use Rattle.call.specs.declared.Call.{Call}
 use Rattle.planbytes.specs.Numbers.{high, number, numberAfter}

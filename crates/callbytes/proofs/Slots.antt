@@ -11,7 +11,7 @@ use lib.ListN.{length, getD, set, drop, replicate, length-append, drop-of-length
 use lib.Seq.{sets, drop-cons, sets-eq, getD-drop}
 use lib.Dec.{eqb}
 use Rattle.call.specs.declared.Slot.{Slot}
-use Rattle.call.specs.declared.State.the-variants.{Idle, Requesting, Waiting, Linked, Unlinking}
+use Rattle.ends.specs.declared.State.the-variants.{Idle, Requesting, Waiting, Linked, Unlinking}
 use Rattle.call.specs.Protocol.{slot, blank, cleared, isIdle, isFree}
 use Rattle.callbytes.specs.Codec.{slotBytes, slotsBytes, stateSaid, slotAt, slotsFrom, callIn, callAt, putAt}
 use Rattle.planwrite.proofs.Puts.{sets-append, puts-then}

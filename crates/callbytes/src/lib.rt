@@ -8,12 +8,12 @@ ghost use Rattle.planbytes.specs.Numbers.{high, number};
 ghost use Rattle.call.specs.Protocol.{isFree};
 ghost use Rattle.callbytes.specs.Codec.{stateNumber, statusNumber, statusCode, signalNumber, signalTunnel, signalCode, stateSaid, statusSaid, signalSaid, slotBytes, slotsBytes, callBytes, slotAt, slotsFrom, callIn, callAt, putAt, Fits};
 use call::Call;
-use call::End;
+use ends::End;
 use call::Queue;
-use call::Signal;
+use ends::Signal;
 use call::Slot;
-use call::State;
-use call::Status;
+use ends::State;
+use ends::Status;
 
 // ---- the numbers of the cases
 

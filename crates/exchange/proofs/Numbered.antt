@@ -7,14 +7,14 @@ use mathlib.Core.Logic.{_⊎_, inl, inr, ⊎-elim}
 use lib.ListN.{length}
 use lib.Dec.{ltb, leb}
 use Rattle.refusal.specs.declared.Refusal.the-variants.{NoSuchCall, RowTooLong}
-use Rattle.call.specs.declared.State.{State}
-use Rattle.call.specs.declared.State.the-variants.{Idle, Requesting, Waiting, Linked, Unlinking}
-use Rattle.call.specs.declared.Signal.{Signal}
-use Rattle.call.specs.declared.Signal.the-variants.{Upack, Ordinary, Teardown, Downack}
+use Rattle.ends.specs.declared.State.{State}
+use Rattle.ends.specs.declared.State.the-variants.{Idle, Requesting, Waiting, Linked, Unlinking}
+use Rattle.ends.specs.declared.Signal.{Signal}
+use Rattle.ends.specs.declared.Signal.the-variants.{Upack, Ordinary, Teardown, Downack}
 use Rattle.call.specs.declared.Call.{Call}
 use Rattle.call.specs.declared.Command.{Command}
 use Rattle.call.specs.declared.Command.the-variants.{Accept, Busy, Unobtainable, Send, Teardown as Hang-up, Deliver}
-use Rattle.call.specs.declared.Status.{Status}
+use Rattle.ends.specs.declared.Status.{Status}
 use Rattle.call.specs.declared.Step.{Step}
 use Rattle.call.specs.Protocol.{actor, other, stateOf, queueTo, waiting, isOrdinary, isWaiting, isLinked, to, answers, speaks, tears, hears, takes, decide, fit, sends, hands, outcome, step, numberIn, refusing}
 use Rattle.call.specs.Row.{recordAt, named}

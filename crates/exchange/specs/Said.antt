@@ -4,10 +4,10 @@ use mathlib.Core.Bool.{Bool, true, false, cond, not, _&&_}
 use mathlib.Core.List.{List, [], _∷_}
 use lib.ListN.{length}
 use lib.Dec.{ltb, leb, eqb}
-use Rattle.call.specs.declared.State.{State}
-use Rattle.call.specs.declared.State.the-variants.{Idle, Requesting, Waiting, Linked, Unlinking}
-use Rattle.call.specs.declared.Signal.{Signal}
-use Rattle.call.specs.declared.Signal.the-variants.{Upack, Ordinary, Teardown, Downack}
+use Rattle.ends.specs.declared.State.{State}
+use Rattle.ends.specs.declared.State.the-variants.{Idle, Requesting, Waiting, Linked, Unlinking}
+use Rattle.ends.specs.declared.Signal.{Signal}
+use Rattle.ends.specs.declared.Signal.the-variants.{Upack, Ordinary, Teardown, Downack}
 use Rattle.call.specs.declared.Call.{Call}
 use Rattle.call.specs.declared.Command.{Command}
 use Rattle.call.specs.declared.Command.the-variants.{Accept, Busy, Unobtainable, Send, Teardown as Hang-up, Deliver}
