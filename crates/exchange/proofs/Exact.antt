@@ -17,10 +17,6 @@ use denote.Triple.Entry.{Res, Args}
 use Rattle.call.specs.Protocol.{step, cleared}
 use Rattle.call.specs.Row.{lowestFree, command as by-command, turn}
 use Rattle.exchange.specs.Lent.{answering, takenAt, commandedIn, within as withinOf}
-use Rattle.call.specs.declared.Command.{Command}
-use Rattle.call.specs.declared.Step.{Step}
-use Rattle.exchange.specs.declared.Taken.{Taken}
-use Rattle.exchange.proofs.commanded.Reads as commanded
 use Rattle.exchange.proofs.copy_out as copy-out
 use Rattle.exchange.proofs.store as store
 use Rattle.exchange.proofs.lowest_free as lowest-free
@@ -72,7 +68,3 @@ module _ {M : Type 1} (𝓤 : URA M) (H : Heap 𝓤) (A : Atoms 𝓤) (mem : Mem
   pub port-command-in-says : (κs : Lfts (port-command-in.signature .lifetimes)) (a : Args port-command-in.signature κs) (g : port-command-in.clauses 𝓤 H A mem run κs a .ghost) (r : Res port-command-in.signature κs) (e : AtExit port-command-in.ended κs)
       → ent 𝓤 (port-command-in.clauses 𝓤 H A mem run κs a .ensures g r e) (fact 𝓤 (r ≡ step (a .0) (a .1 .0)))
   port-command-in-says κs a g r e = id⊢ 𝓤 _
-
-pub commanded-exact : (n : ℕ) (t : Taken) (u : ℕ) (k : Command) (r s : Step)
-    → commanded.Post tt (n, (t, (u, (k, tt)))) r (n, (t, (u, (k, tt)))) → commanded.Post tt (n, (t, (u, (k, tt)))) s (n, (t, (u, (k, tt)))) → r ≡ s
-commanded-exact n t u k r s p q = p ∙ sym q
