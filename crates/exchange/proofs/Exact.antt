@@ -32,8 +32,6 @@ use Rattle.exchange.proofs.command as command
 use Rattle.exchange.proofs.within as within
 use Rattle.exchange.proofs.command_in as command-in
 use Rattle.exchange.proofs.port_command_in as port-command-in
-use Rattle.exchange.proofs.commanded.Reads as commanded
-use Rattle.exchange.specs.declared.Taken.{Taken}
 
 module _ {M : Type 1} (𝓤 : URA M) (H : Heap 𝓤) (A : Atoms 𝓤) (mem : Memory → SProp 𝓤) (run : Routine → Fun 𝓤) where
   pub copy-out-exact : (κs : Lfts (copy-out.signature .lifetimes)) (a : Args copy-out.signature κs) (g h : copy-out.clauses 𝓤 H A mem run κs a .ghost) (r s : Res copy-out.signature κs) (e f : AtExit copy-out.ended κs)
@@ -96,7 +94,3 @@ module _ {M : Type 1} (𝓤 : URA M) (H : Heap 𝓤) (A : Atoms 𝓤) (mem : Mem
 -- The same of `call::Call::step`, whose answers a port and a row hand on.
 pub step-numbered : (self : Call) (k : Command) (r : Step) → step.Post tt (self, (k, tt)) r (self, (k, tt)) → numberIn (r .answer) ≡ numberStepped self k
 step-numbered self k r p = ap (λ (z : Step). numberIn (z .answer)) p ∙ step-number self k
-
-pub commanded-exact : (n : ℕ) (t : Taken) (u : ℕ) (k : Command) (r s : Step)
-    → commanded.Post tt (n, (t, (u, (k, tt)))) r (n, (t, (u, (k, tt)))) → commanded.Post tt (n, (t, (u, (k, tt)))) s (n, (t, (u, (k, tt)))) → r ≡ s
-commanded-exact n t u k r s p q = p ∙ sym q

@@ -102,7 +102,7 @@ fn answers_to(t: Taken, use_number: u16) -> bool
 }
 
 // What a command comes to for the record taken from a row of this length: 16, 10, or the record's own step.
-pub fn commanded(length: usize, t: Taken, use_number: u16, k: Command) -> Step
+fn commanded(length: usize, t: Taken, use_number: u16, k: Command) -> Step
     ensures { λ r. ⌜ r ≡ spec.commanded length t «use_number» k ⌝ }
 {
     let c = t.call;

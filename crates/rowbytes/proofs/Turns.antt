@@ -2,11 +2,12 @@
 use mathlib.Core.Path.{_≡_, refl, sym, ap, _∙_}
 use mathlib.Core.Bool.{Bool, true, false, cond, not}
 use mathlib.Core.List.{List, [], _∷_, append-nil}
-use Prim.Native.Nat.{ℕ}
+use Prim.Native.Nat.{ℕ, _*_, _≤_, _<_}
 use native.Mathlib.Omega.{arith}
 use lib.ListN.{length, set}
 use lib.Seq.{set-getD}
-use lib.Dec.{T as Holds, ltb}
+use lib.Dec.{T as Holds, eqb}
+use borrow.Author.Tests.{lt-ltb, le-ltb}
 use Rattle.refusal.specs.declared.Refusal.{Refusal}
 use Rattle.refusal.specs.declared.Refusal.the-variants.{NoSuchCall, RowTooLong}
 use Rattle.plan.specs.declared.Plan.{Plan}
@@ -19,22 +20,22 @@ use Rattle.routing.proofs.Zoned.{answer-outcome}
 use Rattle.call.specs.declared.Call.{Call}
 use Rattle.call.specs.declared.Command.{Command}
 use Rattle.call.specs.declared.Step.{Step}
-use Rattle.call.specs.Protocol.{step, cleared, refusing, placed}
+use Rattle.call.specs.declared.Answer.the-variants.{Refused}
+use Rattle.call.specs.Protocol.{step, cleared, isFree, placed}
 use Rattle.call.specs.History.{accepted}
-use Rattle.call.specs.Row.{Turn, says, command, recordAt, lowestFree, turn}
-use Rattle.call.proofs.Theorem.{refusedSame}
+use Rattle.call.specs.Row.{Turn, says, command, recordAt, lowestFree, refuses, put, turn}
+use Rattle.teardown.proofs.Theorem.{refusedSame}
 use Rattle.exchange.specs.declared.Taken.{Taken}
-use Rattle.exchange.specs.Lent.{answersTo, takenAt, commanded}
-use Rattle.exchange.proofs.Turns.{commanded-is}
+use Rattle.exchange.specs.Lent.{takenAt}
 use Rattle.placing.specs.declared.Placed.{Placed}
 use Rattle.placing.specs.Rows.{laterBy, laterFor, outcomeIn, answerIn, turned, placedIn, rowAfter}
 use Rattle.placing.specs.Parts.{answerFor}
 use Rattle.placing.proofs.Settles.{Came, routing-to, refusing-by, came, places, port-places, answers-placed, port-placed}
-use Rattle.callbytes.specs.Codec.{callBytes, callIn, Fits}
+use Rattle.callbytes.specs.Codec.{callBytes, callIn, callAt, Fits}
 use Rattle.callbytes.proofs.RoundTrip.{there-and-back}
 use Rattle.rowbytes.specs.Rows.{recordsIn, rowIn, putIn, after, portCommanded, portAfter}
 use Rattle.rowbytes.specs.Parts.{settledBy, keptBy, portKeptBy}
-use Rattle.rowbytes.proofs.Rows.{row-length, row-stored, put-read}
+use Rattle.rowbytes.proofs.Rows.{row-length, record-in, row-stored, put-read}
 
 -- ---- a refusal keeps the record
 
@@ -45,46 +46,69 @@ not-true true e = let z : _≡_ {A = ℕ} 0 1 = cc in absurd (omega arith)
 step-kept : (c : Call) (k : Command) → accepted (step c k .answer) ≡ false → step c k .call ≡ c
 step-kept c k e = refusedSame c k (not-true (accepted (step c k .answer)) e)
 
-commanded-by : (long named : Bool) (c : Call) (k : Command)
-    → accepted (cond long (refusing c RowTooLong) (cond named (step c k) (refusing c NoSuchCall)) .answer) ≡ false
-    → cond long (refusing c RowTooLong) (cond named (step c k) (refusing c NoSuchCall)) .call ≡ c
-commanded-by true named c k e = refl
-commanded-by false true c k e = step-kept c k e
-commanded-by false false c k e = refl
-
 -- ---- a command
 
-module _ (b : List ℕ) (r u : ℕ) (k : Command) where
+module _ (b : List ℕ) (r : ℕ) (k : Command) where
   abbrev s : Step
-  s = commanded (length (rowIn b)) (takenAt (rowIn b) r) u k
+  s = step (recordAt (rowIn b) r) k
 
-  refused-keeps : accepted (s .answer) ≡ false → s .call ≡ recordAt (rowIn b) r
-  refused-keeps e = commanded-by (ltb 1024 (length (rowIn b))) (answersTo (takenAt (rowIn b) r) u) (recordAt (rowIn b) r) k e
+  bytes-after : settledBy (s .answer) b r (s .call) ≡ after b r (put (rowIn b) r s)
+  bytes-after = ap (λ (x : List ℕ). cond (accepted (s .answer)) x b) (sym (put-read b r (s .call)))
 
-  pub bytes-after : settledBy (s .answer) b r (s .call) ≡ after b r (turn (rowIn b) (command r u k))
-  bytes-after =
-      ap (λ (x : List ℕ). cond (accepted (s .answer)) x b) (sym (put-read b r (s .call)))
-      ∙ ap (after b r) (commanded-is (rowIn b) r u k)
-
-  pub row-after : Fits (s .call) → rowIn (settledBy (s .answer) b r (s .call)) ≡ turn (rowIn b) (command r u k) .row
-  row-after f = by (accepted (s .answer)) refl ∙ ap (λ (t : Turn). t .row) (commanded-is (rowIn b) r u k)
+  row-after : Fits (s .call) → rowIn (settledBy (s .answer) b r (s .call)) ≡ set (rowIn b) r (s .call)
+  row-after f = by (accepted (s .answer)) refl
     where
       by : (t : Bool) → accepted (s .answer) ≡ t → rowIn (cond (accepted (s .answer)) (putIn b r (s .call)) b) ≡ set (rowIn b) r (s .call)
       by true e = ap (λ (x : Bool). rowIn (cond x (putIn b r (s .call)) b)) e ∙ row-stored (s .call) f b r
-      by false e = ap (λ (x : Bool). rowIn (cond x (putIn b r (s .call)) b)) e ∙ sym (ap (set (rowIn b) r) (refused-keeps e) ∙ set-getD (rowIn b) r cleared)
+      by false e =
+          ap (λ (x : Bool). rowIn (cond x (putIn b r (s .call)) b)) e
+          ∙ sym (ap (set (rowIn b) r) (step-kept (recordAt (rowIn b) r) k e) ∙ set-getD (rowIn b) r cleared)
 
--- what the three calls of `command` come to
-pub command-is : (b : List ℕ) (r u : ℕ) (k : Command) {t : Taken} {s : Step} {z : List ℕ} → t ≡ takenAt (rowIn b) r → s ≡ commanded (recordsIn b) t u k → Fits (s .call)
-    → z ≡ settledBy (s .answer) b r (s .call)
-    → (says (s .answer) ≡ turn (rowIn b) (command r u k) .reply) × (z ≡ after b r (turn (rowIn b) (command r u k))) × (rowIn z ≡ turn (rowIn b) (command r u k) .row)
-command-is b r u k {t} {s} {z} et es f ez =
-    let e : s ≡ commanded (length (rowIn b)) (takenAt (rowIn b) r) u k = es ∙ rw (et, row-length b) refl in
-    let fits : Fits (commanded (length (rowIn b)) (takenAt (rowIn b) r) u k .call) = rw e at f in
-    let settled : z ≡ settledBy (commanded (length (rowIn b)) (takenAt (rowIn b) r) u k .answer) b r (commanded (length (rowIn b)) (takenAt (rowIn b) r) u k .call) = ez ∙ ap (λ (x : Step). settledBy (x .answer) b r (x .call)) e in (
-      ap (λ (x : Step). says (x .answer)) e ∙ ap (λ (x : Turn). x .reply) (commanded-is (rowIn b) r u k),
-      settled ∙ bytes-after b r u k,
-      ap rowIn settled ∙ row-after b r u k fits,
-    )
+-- what the code makes of the row is the turn that the command is
+module _ (b : List ℕ) (r u : ℕ) (k : Command) where
+  abbrev t : Turn
+  t = turn (rowIn b) (command r u k)
+
+  refused-by : (x : Refusal) → t ≡ refuses x (rowIn b) → (says (Refused x) ≡ t .reply) × (b ≡ after b r t) × (rowIn b ≡ t .row)
+  refused-by x e = (ap (λ (y : Turn). y .reply) (sym e), ap (after b r) (sym e), ap (λ (y : Turn). y .row) (sym e))
+
+  pub too-long : 1024 < recordsIn b → (says (Refused RowTooLong) ≡ t .reply) × (b ≡ after b r t) × (rowIn b ≡ t .row)
+  too-long h = refused-by RowTooLong (rw (row-length b, lt-ltb 1024 (recordsIn b) h) refl)
+
+  module _ (few : recordsIn b ≤ 1024) where
+    pub past-row : recordsIn b ≤ r → (says (Refused NoSuchCall) ≡ t .reply) × (b ≡ after b r t) × (rowIn b ≡ t .row)
+    past-row h = refused-by NoSuchCall (rw (row-length b, le-ltb 1024 (recordsIn b) few, le-ltb r (recordsIn b) h) refl)
+
+    module _ (in-row : r < recordsIn b) where
+      pub free-record : isFree (callAt b (102 * r)) ≡ true → (says (Refused NoSuchCall) ≡ t .reply) × (b ≡ after b r t) × (rowIn b ≡ t .row)
+      free-record e =
+          let free : isFree (recordAt (rowIn b) r) ≡ true = ap isFree (sym (record-in b r in-row)) ∙ e in
+          refused-by NoSuchCall (rw (row-length b, le-ltb 1024 (recordsIn b) few, lt-ltb r (recordsIn b) in-row, free) refl)
+
+      module _ (taken : isFree (callAt b (102 * r)) ≡ false) {c : Call} (ec : c ≡ callAt b (102 * r)) where
+        is-taken : isFree (recordAt (rowIn b) r) ≡ false
+        is-taken = ap isFree (sym (record-in b r in-row)) ∙ taken
+
+        is-record : c ≡ recordAt (rowIn b) r
+        is-record = ec ∙ record-in b r in-row
+
+        pub other-use : eqb (c .«use_number») u ≡ false → (says (Refused NoSuchCall) ≡ t .reply) × (b ≡ after b r t) × (rowIn b ≡ t .row)
+        other-use e =
+            let differs : eqb (recordAt (rowIn b) r .«use_number») u ≡ false = ap (λ (x : Call). eqb (x .«use_number») u) (sym is-record) ∙ e in
+            refused-by NoSuchCall (rw (row-length b, le-ltb 1024 (recordsIn b) few, lt-ltb r (recordsIn b) in-row, is-taken, differs) refl)
+
+        pub stepped-in : eqb (c .«use_number») u ≡ true → {x : Step} {z : List ℕ} → x ≡ step c k → Fits (x .call) → z ≡ settledBy (x .answer) b r (x .call)
+            → (says (x .answer) ≡ t .reply) × (z ≡ after b r t) × (rowIn z ≡ t .row)
+        stepped-in e {x} {z} es f ez =
+            let same : eqb (recordAt (rowIn b) r .«use_number») u ≡ true = ap (λ (y : Call). eqb (y .«use_number») u) (sym is-record) ∙ e in
+            let so : t ≡ put (rowIn b) r (step (recordAt (rowIn b) r) k) = rw (row-length b, le-ltb 1024 (recordsIn b) few, lt-ltb r (recordsIn b) in-row, is-taken, same) refl in
+            let ex : x ≡ step (recordAt (rowIn b) r) k = es ∙ ap (λ (y : Call). step y k) is-record in
+            let fits : Fits (step (recordAt (rowIn b) r) k .call) = rw ex at f in
+            let settled : z ≡ settledBy (step (recordAt (rowIn b) r) k .answer) b r (step (recordAt (rowIn b) r) k .call) = ez ∙ ap (λ (y : Step). settledBy (y .answer) b r (y .call)) ex in (
+              ap (λ (y : Step). says (y .answer)) ex ∙ ap (λ (y : Turn). y .reply) (sym so),
+              settled ∙ bytes-after b r k ∙ ap (after b r) (sym so),
+              ap rowIn settled ∙ row-after b r k fits ∙ ap (λ (y : Turn). y .row) (sym so),
+            )
 
 -- ---- a call placed
 

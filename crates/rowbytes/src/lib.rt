@@ -1,4 +1,4 @@
-// A row of calls, or a port's one, in lent bytes: 102 to a record, for programs in other languages (01 'Calls'). The decisions are those of `exchange` and `placing`, by their functions of values; here a
+// A row of calls, or a port's one, in lent bytes: 102 to a record, for programs in other languages (01 'Calls'). What a record does is the call's own step, and placing decides by its functions of values; here a
 // record is found, read, and stored again where something is accepted. Nothing else is touched, and no refusal changes a byte.
 use call::Answer;
 use call::Call;
@@ -7,6 +7,7 @@ use call::Step;
 use exchange::Taken;
 use placing::Placed;
 use plan::Plan;
+use refusal::Refusal;
 use routing::Outcome;
 use setup::Setup;
 ghost use mathlib.Core.Path.{_≡_};
@@ -103,10 +104,24 @@ pub fn command(row: &mut [u8], r: usize, use_number: u16, k: Command) -> Answer
         × (rowIn (now (row .exit)) ≡ turn (rowIn (now (row .entry))) (by-command r «use_number» k) .row) ⌝ }
 {
     let n = row.len() / 102;
-    let t = taken_at(row, r);
-    let s = exchange::commanded(n, t, use_number, k);
-    let c = s.call;
-    callbytes::held(c);
+    if 1024 < n {
+        return Answer::Refused(Refusal::RowTooLong);
+    }
+    if n <= r {
+        return Answer::Refused(Refusal::NoSuchCall);
+    }
+    let at = 102 * r;
+    let free = callbytes::free_at(row, at);
+    if free {
+        return Answer::Refused(Refusal::NoSuchCall);
+    }
+    let c = callbytes::call_at(row, at);
+    if c.use_number != use_number {
+        return Answer::Refused(Refusal::NoSuchCall);
+    }
+    let s = c.step(k);
+    let next = s.call;
+    callbytes::held(next);
     settle(row, r, s);
     s.answer
 }
