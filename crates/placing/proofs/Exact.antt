@@ -1,5 +1,6 @@
 -- Any two results that a contract of this crate allows are equal, and so are any two contents of what was lent. Each line is stated of the contract itself: of `clauses`, which the toolchain reads off the function's `ensures`, at one
 -- entry and at any two results and exits. And each result has document 01's number and place (`-numbered`). Assumes nothing.
+use Prim.Native.Nat.{ℕ}
 use mathlib.Core.Path.{_≡_, refl, sym, ap, _∙_}
 use mathlib.Core.List.{[], _∷_}
 use lib.ListN.{length}

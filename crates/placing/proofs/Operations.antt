@@ -12,6 +12,7 @@ use Rattle.refusal.specs.declared.Refusal.{Refusal}
 use Rattle.refusal.specs.declared.Refusal.the-variants.{NoSuchCall, RowTooLong, NoFreeRecord, RuleBroken, Malformed, ListTooShort}
 use Rattle.refusal.specs.Numbers.{numberOf}
 use Rattle.plan.specs.declared.Plan.{Plan}
+use Rattle.plan.specs.Sound.{sound}
 use Rattle.setup.specs.declared.Setup.{Setup}
 use Rattle.routing.specs.declared.Callee.{Callee}
 use Rattle.routing.specs.declared.Later.{Later}
@@ -74,12 +75,12 @@ placing-number : (row : List Call) (p : Plan) (s : Setup) (n m : ℕ) → number
 placing-number row p s n m = by (firstRefusal p s (laterFor row) n m) refl
   where
     by : (l : Later) → firstRefusal p s (laterFor row) n m ≡ l → numberOfOutcome (outcomeIn row p s n m) ≢ 17
-    by Nothing e = subst (λ (o : Outcome). numberOfOutcome o ≢ 17) (sym (list-routed p s (laterFor row) n m e)) (other 0 refl)
+    by Nothing e = subst (λ (o : Outcome). numberOfOutcome o ≢ 17) (sym (list-routed (sound p) p s (laterFor row) n m e)) (other 0 refl)
     by (Refuse x) e =
-        subst (λ (o : Outcome). numberOfOutcome o ≢ 17) (sym (list-refused p s (laterFor row) n m x e))
+        subst (λ (o : Outcome). numberOfOutcome o ≢ 17) (sym (list-refused (sound p) p s (laterFor row) n m x e))
         (⊎-elim (not-17 x (RuleBroken 0) refl) (⊎-elim (not-17 x Malformed refl) (⊎-elim (not-17 x ListTooShort refl)
         (λ (l : laterFor row ≡ Refuse x). ⊎-elim (not-17 x RowTooLong refl) (not-17 x NoFreeRecord refl) (by-row (ltb 1024 (length row)) (ltb (lowestFree row) (length row)) x l))))
-        (settled-refusal p s (laterFor row) n m x e))
+        (settled-refusal (sound p) p s (laterFor row) n m x e))
 
 -- What the operations make of a record that began cleared: it is still cleared, or a call was placed in it and commands came after.
 data Came (c : Call) : Type 0 where

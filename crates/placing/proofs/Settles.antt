@@ -9,6 +9,7 @@ use lib.Dec.{ltb}
 use Rattle.refusal.specs.declared.Refusal.{Refusal}
 use Rattle.refusal.specs.declared.Refusal.the-variants.{RowTooLong, NoFreeRecord}
 use Rattle.plan.specs.declared.Plan.{Plan}
+use Rattle.plan.specs.Sound.{sound}
 use Rattle.setup.specs.declared.Setup.{Setup}
 use Rattle.routing.specs.declared.Callee.{Callee}
 use Rattle.routing.specs.declared.Later.{Later}
