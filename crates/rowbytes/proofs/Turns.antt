@@ -11,6 +11,7 @@ use borrow.Author.Tests.{lt-ltb, le-ltb}
 use Rattle.refusal.specs.declared.Refusal.{Refusal}
 use Rattle.refusal.specs.declared.Refusal.the-variants.{NoSuchCall, RowTooLong}
 use Rattle.plan.specs.declared.Plan.{Plan}
+use Rattle.plan.specs.Sound.{sound}
 use Rattle.setup.specs.declared.Setup.{Setup}
 use Rattle.routing.specs.declared.Outcome.{Outcome}
 use Rattle.routing.specs.declared.Later.{Later}
@@ -149,7 +150,7 @@ module _ (b : List ℕ) (p : Plan) (x : Setup) (n m : ℕ) {r : ℕ} {l : Later}
   outcome-is = rw later-is refl
 
   said-is : a .outcome ≡ outcomeIn (rowIn b) p x n m
-  said-is = ap (λ (y : Answer). y .outcome) answer-is ∙ answer-outcome p x (laterFor (rowIn b)) n m
+  said-is = ap (λ (y : Answer). y .outcome) answer-is ∙ answer-outcome (sound p) p x (laterFor (rowIn b)) n m
 
   pub place-is : {t : Taken} {z : List ℕ} {w : Placed} → t ≡ takenAt (rowIn b) r → z ≡ keptBy (a .outcome) b r (t .call) → w ≡ answerFor a r (t .call)
       → (w ≡ placedIn (rowIn b) p x n m) × (z ≡ after b (lowestFree (rowIn b)) (turned (rowIn b) (outcomeIn (rowIn b) p x n m))) × (rowIn z ≡ rowAfter (rowIn b) p x n m)
@@ -194,7 +195,7 @@ module _ (b : List ℕ) (p : Plan) (x : Setup) (n m : ℕ) {c : Call} {l : Later
   port-outcome-is = rw port-later-is refl
 
   port-said-is : a .outcome ≡ outcomeIn (callIn b ∷ []) p x n m
-  port-said-is = ap (λ (y : Answer). y .outcome) port-answer-is ∙ answer-outcome p x (laterFor (callIn b ∷ [])) n m
+  port-said-is = ap (λ (y : Answer). y .outcome) port-answer-is ∙ answer-outcome (sound p) p x (laterFor (callIn b ∷ [])) n m
 
   pub port-place-is : {z : List ℕ} {w : Placed} → z ≡ portKeptBy (a .outcome) b c → w ≡ answerFor a 0 c
       → (w ≡ placedIn (callIn b ∷ []) p x n m) × (z ≡ portAfter b (turned (callIn b ∷ []) (outcomeIn (callIn b ∷ []) p x n m))) × (callIn z ≡ recordAt (rowAfter (callIn b ∷ []) p x n m) 0)
