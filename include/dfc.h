@@ -23,7 +23,7 @@
  *    7  string too long, or with another symbol
  *    8  the new routing address is the box's own
  * and of calls:
- *   10  no such call: past the row, free, or of        14  nothing waits there
+ *   10  no such call: past the row, free, or of       14  nothing waits there
  *       another use                                   15  not an ordinary signal
  *   11  no free record                                16  a row of more than 1,024 records
  *   12  the end's state forbids it                    17  a broken record: a count above 16, a signal that the
@@ -141,7 +141,7 @@ enum { DFC_UPACK = 0, DFC_TEARDOWN = 1, DFC_DOWNACK = 2, DFC_UNKNOWN = 3, DFC_AV
 /* Sides: any number but 0 is the callee. */
 enum { DFC_CALLER = 0, DFC_CALLEE = 1 };
 /* Commands. The callee answers once: accept, busy or unobtainable; these name no side. Send is an ordinary signal from a side, by signal (any number but
- * DFC_UNKNOWN to DFC_DTMF stands for DFC_SPECIAL), tunnel and code; teardown is from a side; deliver, and any number above, hands the oldest signal
+ * DFC_UNKNOWN to DFC_DTMF stands for DFC_SPECIAL), tunnel and code; teardown is from a side too; deliver, and any number above, hands the oldest signal
  * that waits for a side over to it. Arguments that a command has no use for do not count. */
 enum { DFC_ACCEPT = 0, DFC_BUSY = 1, DFC_UNOBTAINABLE = 2, DFC_SEND = 3, DFC_SEND_TEARDOWN = 4, DFC_DELIVER = 5 };
 
@@ -160,7 +160,7 @@ typedef struct {
     uint64_t box_number;
     uint64_t address;
     uint64_t record_number; /* of the record that took the call, 0 beside a refusal */
-    uint64_t use_number;    /* how often calls were placed in that record, modulo 65,536: commands name both */
+    uint64_t use_number;    /* how often calls were placed there since it was cleared, modulo 65,536; commands name both */
 } dfc_placed;
 
 /* Every record of a row cleared: ends idle, queues empty, use number 0. With size DFC_CALL it clears a port. */

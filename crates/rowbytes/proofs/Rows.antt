@@ -1,6 +1,6 @@
 -- The records of some bytes: how many, which, the lowest free one, and what a record stored or all cleared make of them. Assumes nothing.
 use mathlib.Core.Path.{_≡_, refl, sym, ap, ap₂, _∙_}
-use mathlib.Core.Bool.{Bool, true, false, cond}
+use mathlib.Core.Bool.{Bool, true, false, cond, _&&_}
 use mathlib.Core.List.{List, [], _∷_, _++_, append-assoc}
 use Prim.Native.Nat.{ℕ, zero, suc, _+_, _*_, _-_, _/_, _≤_, _<_}
 use native.Mathlib.Nat.{le-of-suc-le-suc, not-suc-le-zero}
@@ -8,7 +8,7 @@ use native.Mathlib.Numerals.{add-one}
 use native.Mathlib.Omega.{arith}
 use lib.ListN.{length, getD, set, take, drop, replicate, length-append, length-set, length-drop, length-replicate, replicate-append-replicate, List·getD-eq-default}
 use lib.Seq.{sets, sets-eq, length-sets, length-take-le, drop-set-add, drop-at, take-append-le, take-take, drop-drop, drop-cons, set-at, set-out, getD-set-same}
-use lib.Dec.{ltb}
+use lib.Dec.{ltb, eqb}
 use borrow.Author.Tests.{lt-ltb, le-ltb, ltb-true, ltb-false}
 use Rattle.call.specs.declared.Call.{Call}
 use Rattle.call.specs.Protocol.{cleared, isFree}
@@ -17,6 +17,7 @@ use Rattle.exchange.specs.declared.Taken.{Taken}
 use Rattle.exchange.specs.Lent.{takenAt}
 use Rattle.planbytes.specs.Numbers.{high}
 use Rattle.callbytes.specs.Codec.{callBytes, slotsBytes, callIn, callAt, putAt, Fits}
+use Rattle.callbytes.proofs.Slots.{free-by-states}
 use Rattle.callbytes.proofs.RoundTrip.{call-length, there-and-back, own-bytes}
 use Rattle.rowbytes.specs.Rows.{recordsIn, records, rowIn, rowBytes, clearedIn, putIn}
 
@@ -58,6 +59,13 @@ record-past b r h =
 pub port-record : (b : List ℕ) → length b ≡ 102 → callAt b 0 ≡ callIn b
 unfolding callAt
 port-record b long = rw long refl
+
+-- free or not, by two bytes of a record that is there
+pub free-states : (b : List ℕ) (at : ℕ) → at + 102 ≤ length b → isFree (callAt b at) ≡ (eqb (getD b at 0) 0 && eqb (getD b (at + 1) 0) 0)
+unfolding callAt
+free-states b at h =
+    let room : 102 ≤ length b - at = omega arith in
+    rw (le-ltb (length b - at) 102 room) (free-by-states b at)
 
 -- a record copied out, and whether the row has it
 pub taken-in : (b : List ℕ) (r : ℕ) {c : Call} → r < recordsIn b → c ≡ callAt b (102 * r) → record { inside = true; call = c } ≡ takenAt (rowIn b) r

@@ -13,15 +13,15 @@ use setup::Setup;
 ghost use mathlib.Core.Path.{_≡_};
 ghost use mathlib.Core.Bool.{cond};
 ghost use mathlib.Core.List.{[], _∷_};
-ghost use Prim.Native.Nat.{_*_, _/_, _<_, _≤_};
+ghost use Prim.Native.Nat.{_+_, _*_, _/_, _<_, _≤_};
 ghost use lib.ListN.{length, replicate};
 ghost use Rattle.routing.specs.Routing.{sourceList, targetList};
-ghost use Rattle.call.specs.Protocol.{step, cleared};
+ghost use Rattle.call.specs.Protocol.{isFree, step, cleared};
 ghost use Rattle.call.specs.History.{accepted};
 ghost use Rattle.call.specs.Row.{lowestFree, recordAt, says, command as by-command, turn};
 ghost use Rattle.exchange.specs.Lent.{takenAt};
 ghost use Rattle.placing.specs.Rows.{outcomeIn, placedIn, rowAfter, turned};
-ghost use Rattle.callbytes.specs.Codec.{callIn, callBytes};
+ghost use Rattle.callbytes.specs.Codec.{callIn, callAt};
 ghost use Rattle.rowbytes.specs.Rows.{recordsIn, rowIn, clearedIn, putIn, after, portCommanded, portAfter};
 ghost use Rattle.rowbytes.specs.Parts.{settledBy, keptBy, portKeptBy};
 
@@ -53,6 +53,17 @@ fn put(row: &mut [u8], r: usize, c: Call)
     }
 }
 
+// Whether the record at a place within the row is free: as `callbytes::free_at`, without asking for each record of a long row whether its bytes are there.
+fn free_in(row: &[u8], at: usize) -> bool
+    requires { ⌜ at + 102 ≤ length (now row) ⌝ }
+    ensures { λ r. ⌜ r ≡ isFree (callAt (now (row .entry)) at) ⌝ }
+{
+    if row[at] != 0 {
+        return false;
+    }
+    row[at + 1] == 0
+}
+
 // The lowest free record; how many there are where none is free.
 pub fn lowest_free(row: &[u8]) -> usize
     ensures { λ r. ⌜ r ≡ lowestFree (rowIn (now (row .entry))) ⌝ }
@@ -60,7 +71,7 @@ pub fn lowest_free(row: &[u8]) -> usize
     let n = row.len() / 102;
     let mut i: usize = 0;
     while i < n {
-        if callbytes::free_at(row, 102 * i) {
+        if free_in(row, 102 * i) {
             return i;
         }
         i += 1;

@@ -19,14 +19,14 @@ abbrev μ-loop : tie.MeasureT-loop
 loop-holds : tie.Need-loop-holds Inv-loop μ-loop
 loop-holds c = (search needs, free-start (c .before .args .row .now))
 
-mul-free-at : tie.Need-mul-free-at Inv-loop μ-loop
-mul-free-at c = search needs
+mul-free-in : tie.Need-mul-free-in Inv-loop μ-loop
+mul-free-in c = search needs
 
-free-at-requires : tie.Need-free-at-requires Inv-loop μ-loop
-free-at-requires c κs = search needs
+free-in-requires : tie.Need-free-in-requires Inv-loop μ-loop
+free-in-requires c κs = search needs
 
 returns : tie.Need-returns Inv-loop μ-loop
-returns c = sym (free-found (c .before .before .before .before .before .args .row .now) (c .before .before .before .loop .i) (search needs) (sym (c .before .free-at .ensures) ∙ c .if1 .taken)) ∙ c .before .before .before .loop .inv .1
+returns c = sym (free-found (c .before .before .before .before .before .args .row .now) (c .before .before .before .loop .i) (search needs) (sym (c .before .free-in .ensures) ∙ c .if1 .taken)) ∙ c .before .before .before .loop .inv .1
 
 add-i : tie.Need-add-i Inv-loop μ-loop
 add-i c = search needs
@@ -35,7 +35,7 @@ loop-less : tie.Need-loop-less Inv-loop μ-loop
 loop-less c = search needs
 
 loop-again : tie.Need-loop-again Inv-loop μ-loop
-loop-again c = (search needs, sym (free-next (c .before .before .before .before .before .args .row .now) (c .before .before .before .loop .i) (search needs) (sym (c .before .free-at .ensures) ∙ c .if1 .left)) ∙ c .before .before .before .loop .inv .1)
+loop-again c = (search needs, sym (free-next (c .before .before .before .before .before .args .row .now) (c .before .before .before .loop .i) (search needs) (sym (c .before .free-in .ensures) ∙ c .if1 .left)) ∙ c .before .before .before .loop .inv .1)
 
 returns-2 : tie.Need-returns-2 Inv-loop μ-loop
 returns-2 c = sym (free-end (c .before .before .before .args .row .now) (c .before .loop .i) (search needs)) ∙ c .before .loop .inv .1
@@ -47,8 +47,8 @@ lowest-free-spec =
     Inv-loop
     μ-loop
     loop-holds
-    mul-free-at
-    free-at-requires
+    mul-free-in
+    free-in-requires
     returns
     add-i
     loop-less
