@@ -8,10 +8,10 @@ ghost use Rattle.planbytes.specs.Numbers.{high, number};
 ghost use Rattle.call.specs.Protocol.{isFree};
 ghost use Rattle.callbytes.specs.Codec.{stateNumber, statusNumber, statusCode, signalNumber, signalTunnel, signalCode, stateSaid, statusSaid, signalSaid, slotBytes, slotsBytes, callBytes, slotAt, slotsFrom, callIn, callAt, putAt, Fits};
 use call::Call;
-use ends::End;
 use call::Queue;
-use ends::Signal;
 use call::Slot;
+use ends::End;
+use ends::Signal;
 use ends::State;
 use ends::Status;
 

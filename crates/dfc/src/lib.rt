@@ -557,13 +557,13 @@ pub extern "C" fn dfc_place(
         × (now («target_list» .exit) ≡ targetPlaced (now (file .entry)) (now (setup .entry)) (rowIn (now (row .entry))) (length (now («source_list» .entry))) (length (now («target_list» .entry))) (now («target_list» .entry)))
         × (now (room .exit) ≡ roomPlaced (now (file .entry)) (now (setup .entry)) (rowIn (now (row .entry))) (length (now («source_list» .entry))) (length (now («target_list» .entry))) (now (room .entry))) ⌝ }
 {
-    let reading = planread::read(file);
+    let reading = planback::read(file);
     let verdict = reading.answer;
     let plan = reading.plan;
     match verdict {
         Verdict::Sound => {
             let out = setupbytes::setup_in(setup);
-            let z = rowbytes::place(row, plan, out, source_list, target_list);
+            let z = rowbytes::place(true, row, plan, out, source_list, target_list);
             let a = z.routed;
             let q = received(a, room);
             placed_as(q, z.record_number, z.use_number)
@@ -591,13 +591,13 @@ pub extern "C" fn dfc_port_place(
         × (now («target_list» .exit) ≡ targetPlaced (now (file .entry)) (now (setup .entry)) (callIn (now (port .entry)) ∷ []) (length (now («source_list» .entry))) (length (now («target_list» .entry))) (now («target_list» .entry)))
         × (now (room .exit) ≡ roomPlaced (now (file .entry)) (now (setup .entry)) (callIn (now (port .entry)) ∷ []) (length (now («source_list» .entry))) (length (now («target_list» .entry))) (now (room .entry))) ⌝ }
 {
-    let reading = planread::read(file);
+    let reading = planback::read(file);
     let verdict = reading.answer;
     let plan = reading.plan;
     match verdict {
         Verdict::Sound => {
             let out = setupbytes::setup_in(setup);
-            let z = rowbytes::port_place(port, plan, out, source_list, target_list);
+            let z = rowbytes::port_place(true, port, plan, out, source_list, target_list);
             let a = z.routed;
             let q = received(a, room);
             placed_as(q, z.record_number, z.use_number)

@@ -1,5 +1,6 @@
 -- Any two results that a contract of this crate allows are equal, and so are any two contents of what was lent: read off the contracts themselves, as the functions in
 -- src/ state them. Assumes nothing.
+use mathlib.Core.Bool.{Bool}
 use mathlib.Core.Path.{_≡_, sym, ap, _∙_}
 use mathlib.Core.List.{List}
 use Prim.Native.Nat.{ℕ}
@@ -44,16 +45,16 @@ pub command-exact : (κs : Lfts 1) (row : RefT (List ℕ)) (i u : ℕ) (k : Comm
 unfolding answerOf
 command-exact κs row i u k end end′ r s p q = (ap answerOf (p .0 ∙ sym (q .0)), p .1 ∙ sym (q .1))
 
-pub place-exact : (κs : Lfts 3) (row : RefT (List ℕ)) (plan : Plan) (x : Setup) (sources targets : RefT (List ℕ)) (end end′ : AtExit (endedOf 3 place-kinds.ps place-kinds.r) κs) (r s : Placed)
-    → place.Post κs (row, (plan, (x, (sources, (targets, tt))))) r end → place.Post κs (row, (plan, (x, (sources, (targets, tt))))) s end′
-    → (r ≡ s) × (end .0 .now ≡ end′ .0 .now) × (end .1 .1 .1 .0 .now ≡ end′ .1 .1 .1 .0 .now) × (end .1 .1 .1 .1 .0 .now ≡ end′ .1 .1 .1 .1 .0 .now)
-place-exact κs row plan x sources targets end end′ r s p q = (p .0 ∙ sym (q .0), p .1 ∙ sym (q .1), p .3 ∙ sym (q .3), p .4 ∙ sym (q .4))
+pub place-exact : (κs : Lfts 3) (kept : Bool) (row : RefT (List ℕ)) (plan : Plan) (x : Setup) (sources targets : RefT (List ℕ)) (end end′ : AtExit (endedOf 3 place-kinds.ps place-kinds.r) κs) (r s : Placed)
+    → place.Post κs (kept, (row, (plan, (x, (sources, (targets, tt)))))) r end → place.Post κs (kept, (row, (plan, (x, (sources, (targets, tt)))))) s end′
+    → (r ≡ s) × (end .1 .0 .now ≡ end′ .1 .0 .now) × (end .1 .1 .1 .1 .0 .now ≡ end′ .1 .1 .1 .1 .0 .now) × (end .1 .1 .1 .1 .1 .0 .now ≡ end′ .1 .1 .1 .1 .1 .0 .now)
+place-exact κs kept row plan x sources targets end end′ r s p q = (p .0 ∙ sym (q .0), p .1 ∙ sym (q .1), p .3 ∙ sym (q .3), p .4 ∙ sym (q .4))
 
 pub port-command-exact : (κs : Lfts 1) (port : RefT (List ℕ)) (k : Command) (end end′ : AtExit (endedOf 1 port-command-kinds.ps port-command-kinds.r) κs) (r s : Answer)
     → port-command.Post κs (port, (k, tt)) r end → port-command.Post κs (port, (k, tt)) s end′ → (r ≡ s) × (end .0 .now ≡ end′ .0 .now)
 port-command-exact κs port k end end′ r s p q = (p .0 ∙ sym (q .0), p .1 ∙ sym (q .1))
 
-pub port-place-exact : (κs : Lfts 3) (port : RefT (List ℕ)) (plan : Plan) (x : Setup) (sources targets : RefT (List ℕ)) (end end′ : AtExit (endedOf 3 port-place-kinds.ps port-place-kinds.r) κs) (r s : Placed)
-    → port-place.Post κs (port, (plan, (x, (sources, (targets, tt))))) r end → port-place.Post κs (port, (plan, (x, (sources, (targets, tt))))) s end′
-    → (r ≡ s) × (end .0 .now ≡ end′ .0 .now) × (end .1 .1 .1 .0 .now ≡ end′ .1 .1 .1 .0 .now) × (end .1 .1 .1 .1 .0 .now ≡ end′ .1 .1 .1 .1 .0 .now)
-port-place-exact κs port plan x sources targets end end′ r s p q = (p .0 ∙ sym (q .0), p .1 ∙ sym (q .1), p .3 ∙ sym (q .3), p .4 ∙ sym (q .4))
+pub port-place-exact : (κs : Lfts 3) (kept : Bool) (port : RefT (List ℕ)) (plan : Plan) (x : Setup) (sources targets : RefT (List ℕ)) (end end′ : AtExit (endedOf 3 port-place-kinds.ps port-place-kinds.r) κs) (r s : Placed)
+    → port-place.Post κs (kept, (port, (plan, (x, (sources, (targets, tt)))))) r end → port-place.Post κs (kept, (port, (plan, (x, (sources, (targets, tt)))))) s end′
+    → (r ≡ s) × (end .1 .0 .now ≡ end′ .1 .0 .now) × (end .1 .1 .1 .1 .0 .now ≡ end′ .1 .1 .1 .1 .0 .now) × (end .1 .1 .1 .1 .1 .0 .now ≡ end′ .1 .1 .1 .1 .1 .0 .now)
+port-place-exact κs kept port plan x sources targets end end′ r s p q = (p .0 ∙ sym (q .0), p .1 ∙ sym (q .1), p .3 ∙ sym (q .3), p .4 ∙ sym (q .4))

@@ -11,12 +11,11 @@ use borrow.Author.Tests.{lt-ltb, le-ltb}
 use Rattle.refusal.specs.declared.Refusal.{Refusal}
 use Rattle.refusal.specs.declared.Refusal.the-variants.{NoSuchCall, RowTooLong}
 use Rattle.plan.specs.declared.Plan.{Plan}
-use Rattle.plan.specs.Sound.{sound}
 use Rattle.setup.specs.declared.Setup.{Setup}
 use Rattle.routing.specs.declared.Outcome.{Outcome}
 use Rattle.routing.specs.declared.Later.{Later}
 use Rattle.routing.specs.declared.Answer.{Answer}
-use Rattle.routing.specs.Routing.{outcome, answer}
+use Rattle.routing.specs.Routing.{outcomeBy, answerBy}
 use Rattle.routing.proofs.Zoned.{answer-outcome}
 use Rattle.call.specs.declared.Call.{Call}
 use Rattle.call.specs.declared.Command.{Command}
@@ -29,9 +28,9 @@ use Rattle.teardown.proofs.Theorem.{refusedSame}
 use Rattle.exchange.specs.declared.Taken.{Taken}
 use Rattle.exchange.specs.Lent.{takenAt}
 use Rattle.placing.specs.declared.Placed.{Placed}
-use Rattle.placing.specs.Rows.{laterBy, laterFor, outcomeIn, answerIn, turned, placedIn, rowAfter}
+use Rattle.placing.specs.Rows.{laterBy, laterFor, outcomeInBy, answerInBy, turned, placedInBy, rowAfterBy}
 use Rattle.placing.specs.Parts.{answerFor}
-use Rattle.placing.proofs.Settles.{Came, routing-to, refusing-by, came, places, port-places, answers-placed, port-placed}
+use Rattle.placing.proofs.Settles.{routing-to, refusing-by, came-by, places, port-places, answers-placed-by, port-placed-by}
 use Rattle.callbytes.specs.Codec.{callBytes, callIn, callAt, Fits}
 use Rattle.callbytes.proofs.RoundTrip.{there-and-back}
 use Rattle.rowbytes.specs.Rows.{recordsIn, rowIn, putIn, after, portCommanded, portAfter}
@@ -116,7 +115,7 @@ module _ (b : List ℕ) (r u : ℕ) (k : Command) where
 pub placed-fits : (c : Call) → Fits (placed c)
 placed-fits c = record { use-fits = omega arith; waiting-places = refl; coming-places = refl }
 
-module _ (b : List ℕ) (p : Plan) (x : Setup) (n m : ℕ) where
+module _ (kept : Bool) (b : List ℕ) (p : Plan) (x : Setup) (n m : ℕ) where
   abbrev row : List Call
   row = rowIn b
 
@@ -124,42 +123,42 @@ module _ (b : List ℕ) (p : Plan) (x : Setup) (n m : ℕ) where
   free = lowestFree row
 
   abbrev o : Outcome
-  o = outcomeIn row p x n m
+  o = outcomeInBy kept row p x n m
 
   pub bytes-placed : keptBy o b free (recordAt row free) ≡ after b free (turned row o)
-  bytes-placed = elim (came row p x n m) as (λ _. keptBy (outcomeIn row p x n m) b free (recordAt row free) ≡ after b free (turned row (outcomeIn row p x n m))) [
+  bytes-placed = elim (came-by kept row p x n m) as (λ _. keptBy (outcomeInBy kept row p x n m) b free (recordAt row free) ≡ after b free (turned row (outcomeInBy kept row p x n m))) [
     | routing-to c none e ↦ rw (e, places row none) (sym (put-read b free (placed (recordAt row free))))
     | refusing-by y e ↦ rw e refl
   ]
 
-  pub row-placed : rowIn (keptBy o b free (recordAt row free)) ≡ rowAfter row p x n m
-  row-placed = elim (came row p x n m) as (λ _. rowIn (keptBy (outcomeIn row p x n m) b free (recordAt row free)) ≡ turned row (outcomeIn row p x n m) .row) [
+  pub row-placed : rowIn (keptBy o b free (recordAt row free)) ≡ rowAfterBy kept row p x n m
+  row-placed = elim (came-by kept row p x n m) as (λ _. rowIn (keptBy (outcomeInBy kept row p x n m) b free (recordAt row free)) ≡ turned row (outcomeInBy kept row p x n m) .row) [
     | routing-to c none e ↦ rw (e, places row none) (row-stored (placed (recordAt row free)) (placed-fits (recordAt row free)) b free)
     | refusing-by y e ↦ rw e refl
   ]
 
 -- what the calls of `place` come to
-module _ (b : List ℕ) (p : Plan) (x : Setup) (n m : ℕ) {r : ℕ} {l : Later} {a : Answer} (er : r ≡ lowestFree (rowIn b)) (el : l ≡ laterBy (recordsIn b) r) (ea : a ≡ answer p x l n m) where
+module _ (kept : Bool) (b : List ℕ) (p : Plan) (x : Setup) (n m : ℕ) {r : ℕ} {l : Later} {a : Answer} (er : r ≡ lowestFree (rowIn b)) (el : l ≡ laterBy (recordsIn b) r) (ea : a ≡ answerBy kept p x l n m) where
   pub later-is : l ≡ laterFor (rowIn b)
   later-is = el ∙ rw (er, row-length b) refl
 
-  answer-is : a ≡ answerIn (rowIn b) p x n m
+  answer-is : a ≡ answerInBy kept (rowIn b) p x n m
   answer-is = ea ∙ rw later-is refl
 
-  pub outcome-is : outcome p x l n m ≡ outcomeIn (rowIn b) p x n m
+  pub outcome-is : outcomeBy kept p x l n m ≡ outcomeInBy kept (rowIn b) p x n m
   outcome-is = rw later-is refl
 
-  said-is : a .outcome ≡ outcomeIn (rowIn b) p x n m
-  said-is = ap (λ (y : Answer). y .outcome) answer-is ∙ answer-outcome (sound p) p x (laterFor (rowIn b)) n m
+  said-is : a .outcome ≡ outcomeInBy kept (rowIn b) p x n m
+  said-is = ap (λ (y : Answer). y .outcome) answer-is ∙ answer-outcome kept p x (laterFor (rowIn b)) n m
 
   pub place-is : {t : Taken} {z : List ℕ} {w : Placed} → t ≡ takenAt (rowIn b) r → z ≡ keptBy (a .outcome) b r (t .call) → w ≡ answerFor a r (t .call)
-      → (w ≡ placedIn (rowIn b) p x n m) × (z ≡ after b (lowestFree (rowIn b)) (turned (rowIn b) (outcomeIn (rowIn b) p x n m))) × (rowIn z ≡ rowAfter (rowIn b) p x n m)
+      → (w ≡ placedInBy kept (rowIn b) p x n m) × (z ≡ after b (lowestFree (rowIn b)) (turned (rowIn b) (outcomeInBy kept (rowIn b) p x n m))) × (rowIn z ≡ rowAfterBy kept (rowIn b) p x n m)
   place-is {t} {z} {w} et ez ew =
       let held : t ≡ takenAt (rowIn b) (lowestFree (rowIn b)) = et ∙ ap (takenAt (rowIn b)) er in
-      let kept : z ≡ keptBy (outcomeIn (rowIn b) p x n m) b (lowestFree (rowIn b)) (recordAt (rowIn b) (lowestFree (rowIn b))) = ez ∙ rw (said-is, er, held) refl in (
-        ew ∙ rw (answer-is, er, held) (answers-placed (rowIn b) p x n m),
-        kept ∙ bytes-placed b p x n m,
-        ap rowIn kept ∙ row-placed b p x n m,
+      let held-as : z ≡ keptBy (outcomeInBy kept (rowIn b) p x n m) b (lowestFree (rowIn b)) (recordAt (rowIn b) (lowestFree (rowIn b))) = ez ∙ rw (said-is, er, held) refl in (
+        ew ∙ rw (answer-is, er, held) (answers-placed-by (rowIn b) p x n m kept),
+        held-as ∙ bytes-placed kept b p x n m,
+        ap rowIn held-as ∙ row-placed kept b p x n m,
       )
 
 -- ---- a port
@@ -167,43 +166,43 @@ module _ (b : List ℕ) (p : Plan) (x : Setup) (n m : ℕ) {r : ℕ} {l : Later}
 pub comes-back : (c : Call) → Fits c → callIn (callBytes c) ≡ c
 comes-back c f = ap callIn (sym (append-nil (callBytes c))) ∙ there-and-back c f []
 
-module _ (b : List ℕ) (p : Plan) (x : Setup) (n m : ℕ) where
+module _ (kept : Bool) (b : List ℕ) (p : Plan) (x : Setup) (n m : ℕ) where
   abbrev one : List Call
   one = callIn b ∷ []
 
-  pub port-bytes : portKeptBy (outcomeIn one p x n m) b (callIn b) ≡ portAfter b (turned one (outcomeIn one p x n m))
-  port-bytes = elim (came one p x n m) as (λ _. portKeptBy (outcomeIn one p x n m) b (callIn b) ≡ portAfter b (turned one (outcomeIn one p x n m))) [
+  pub port-bytes : portKeptBy (outcomeInBy kept one p x n m) b (callIn b) ≡ portAfter b (turned one (outcomeInBy kept one p x n m))
+  port-bytes = elim (came-by kept one p x n m) as (λ _. portKeptBy (outcomeInBy kept one p x n m) b (callIn b) ≡ portAfter b (turned one (outcomeInBy kept one p x n m))) [
     | routing-to c none e ↦ rw (e, port-places (callIn b) p x n m none) refl
     | refusing-by y e ↦ rw e refl
   ]
 
-  pub port-call : callIn (portKeptBy (outcomeIn one p x n m) b (callIn b)) ≡ recordAt (rowAfter one p x n m) 0
-  port-call = elim (came one p x n m) as (λ _. callIn (portKeptBy (outcomeIn one p x n m) b (callIn b)) ≡ recordAt (turned one (outcomeIn one p x n m) .row) 0) [
+  pub port-call : callIn (portKeptBy (outcomeInBy kept one p x n m) b (callIn b)) ≡ recordAt (rowAfterBy kept one p x n m) 0
+  port-call = elim (came-by kept one p x n m) as (λ _. callIn (portKeptBy (outcomeInBy kept one p x n m) b (callIn b)) ≡ recordAt (turned one (outcomeInBy kept one p x n m) .row) 0) [
     | routing-to c none e ↦ rw (e, port-places (callIn b) p x n m none) (comes-back (placed (callIn b)) (placed-fits (callIn b)))
     | refusing-by y e ↦ rw e refl
   ]
 
 -- what the calls of `port_place` come to
-module _ (b : List ℕ) (p : Plan) (x : Setup) (n m : ℕ) {c : Call} {l : Later} {a : Answer} (ec : c ≡ callIn b) (el : l ≡ laterFor (c ∷ [])) (ea : a ≡ answer p x l n m) where
+module _ (kept : Bool) (b : List ℕ) (p : Plan) (x : Setup) (n m : ℕ) {c : Call} {l : Later} {a : Answer} (ec : c ≡ callIn b) (el : l ≡ laterFor (c ∷ [])) (ea : a ≡ answerBy kept p x l n m) where
   port-later-is : l ≡ laterFor (callIn b ∷ [])
   port-later-is = el ∙ rw ec refl
 
-  port-answer-is : a ≡ answerIn (callIn b ∷ []) p x n m
+  port-answer-is : a ≡ answerInBy kept (callIn b ∷ []) p x n m
   port-answer-is = ea ∙ rw port-later-is refl
 
-  pub port-outcome-is : outcome p x l n m ≡ outcomeIn (callIn b ∷ []) p x n m
+  pub port-outcome-is : outcomeBy kept p x l n m ≡ outcomeInBy kept (callIn b ∷ []) p x n m
   port-outcome-is = rw port-later-is refl
 
-  port-said-is : a .outcome ≡ outcomeIn (callIn b ∷ []) p x n m
-  port-said-is = ap (λ (y : Answer). y .outcome) port-answer-is ∙ answer-outcome (sound p) p x (laterFor (callIn b ∷ [])) n m
+  port-said-is : a .outcome ≡ outcomeInBy kept (callIn b ∷ []) p x n m
+  port-said-is = ap (λ (y : Answer). y .outcome) port-answer-is ∙ answer-outcome kept p x (laterFor (callIn b ∷ [])) n m
 
   pub port-place-is : {z : List ℕ} {w : Placed} → z ≡ portKeptBy (a .outcome) b c → w ≡ answerFor a 0 c
-      → (w ≡ placedIn (callIn b ∷ []) p x n m) × (z ≡ portAfter b (turned (callIn b ∷ []) (outcomeIn (callIn b ∷ []) p x n m))) × (callIn z ≡ recordAt (rowAfter (callIn b ∷ []) p x n m) 0)
+      → (w ≡ placedInBy kept (callIn b ∷ []) p x n m) × (z ≡ portAfter b (turned (callIn b ∷ []) (outcomeInBy kept (callIn b ∷ []) p x n m))) × (callIn z ≡ recordAt (rowAfterBy kept (callIn b ∷ []) p x n m) 0)
   port-place-is {z} {w} ez ew =
-      let kept : z ≡ portKeptBy (outcomeIn (callIn b ∷ []) p x n m) b (callIn b) = ez ∙ rw (port-said-is, ec) refl in (
-        ew ∙ rw (port-answer-is, ec) (port-placed (callIn b) p x n m),
-        kept ∙ port-bytes b p x n m,
-        ap callIn kept ∙ port-call b p x n m,
+      let held-as : z ≡ portKeptBy (outcomeInBy kept (callIn b ∷ []) p x n m) b (callIn b) = ez ∙ rw (port-said-is, ec) refl in (
+        ew ∙ rw (port-answer-is, ec) (port-placed-by (callIn b) p x n m kept),
+        held-as ∙ port-bytes kept b p x n m,
+        ap callIn held-as ∙ port-call kept b p x n m,
       )
 
 -- what the calls of `port_command` come to

@@ -20,7 +20,7 @@ ghost use Rattle.call.specs.Protocol.{isFree, step, cleared};
 ghost use Rattle.call.specs.History.{accepted};
 ghost use Rattle.call.specs.Row.{lowestFree, recordAt, says, command as by-command, turn};
 ghost use Rattle.exchange.specs.Lent.{takenAt};
-ghost use Rattle.placing.specs.Rows.{outcomeIn, placedIn, rowAfter, turned};
+ghost use Rattle.placing.specs.Rows.{outcomeInBy, placedInBy, rowAfterBy, turned};
 ghost use Rattle.callbytes.specs.Codec.{callIn, callAt};
 ghost use Rattle.rowbytes.specs.Rows.{recordsIn, rowIn, clearedIn, putIn, after, portCommanded, portAfter};
 ghost use Rattle.rowbytes.specs.Parts.{settledBy, keptBy, portKeptBy};
@@ -152,22 +152,23 @@ fn keep(row: &mut [u8], r: usize, a: routing::Answer, c: Call)
 
 // A call is placed in the row's lowest free record.
 pub fn place(
+    kept: bool,
     row: &mut [u8],
     plan: Plan,
     out: Setup,
     source_list: &mut [u8],
     target_list: &mut [u8],
 ) -> Placed
-    ensures { λ z. ⌜ (z ≡ placedIn (rowIn (now (row .entry))) plan out (length (now («source_list» .entry))) (length (now («target_list» .entry))))
-        × (now (row .exit) ≡ after (now (row .entry)) (lowestFree (rowIn (now (row .entry)))) (turned (rowIn (now (row .entry))) (outcomeIn (rowIn (now (row .entry))) plan out (length (now («source_list» .entry))) (length (now («target_list» .entry))))))
-        × (rowIn (now (row .exit)) ≡ rowAfter (rowIn (now (row .entry))) plan out (length (now («source_list» .entry))) (length (now («target_list» .entry))))
-        × (now («source_list» .exit) ≡ sourceList plan out (outcomeIn (rowIn (now (row .entry))) plan out (length (now («source_list» .entry))) (length (now («target_list» .entry)))) (now («source_list» .entry)))
-        × (now («target_list» .exit) ≡ targetList plan out (outcomeIn (rowIn (now (row .entry))) plan out (length (now («source_list» .entry))) (length (now («target_list» .entry)))) (now («target_list» .entry))) ⌝ }
+    ensures { λ z. ⌜ (z ≡ placedInBy kept (rowIn (now (row .entry))) plan out (length (now («source_list» .entry))) (length (now («target_list» .entry))))
+        × (now (row .exit) ≡ after (now (row .entry)) (lowestFree (rowIn (now (row .entry)))) (turned (rowIn (now (row .entry))) (outcomeInBy kept (rowIn (now (row .entry))) plan out (length (now («source_list» .entry))) (length (now («target_list» .entry))))))
+        × (rowIn (now (row .exit)) ≡ rowAfterBy kept (rowIn (now (row .entry))) plan out (length (now («source_list» .entry))) (length (now («target_list» .entry))))
+        × (now («source_list» .exit) ≡ sourceList plan out (outcomeInBy kept (rowIn (now (row .entry))) plan out (length (now («source_list» .entry))) (length (now («target_list» .entry)))) (now («source_list» .entry)))
+        × (now («target_list» .exit) ≡ targetList plan out (outcomeInBy kept (rowIn (now (row .entry))) plan out (length (now («source_list» .entry))) (length (now («target_list» .entry)))) (now («target_list» .entry))) ⌝ }
 {
     let n = row.len() / 102;
     let r = lowest_free(row);
     let later = placing::later_for(n, r);
-    let a = routing::route_unless(plan, out, later, source_list, target_list);
+    let a = routing::route_tested(kept, plan, out, later, source_list, target_list);
     let t = taken_at(row, r);
     let c = t.call;
     keep(row, r, a, c);
@@ -213,21 +214,22 @@ fn port_keep(port: &mut [u8; 102], a: routing::Answer, c: Call)
 
 // A call is placed in the port's record, as in a row of one.
 pub fn port_place(
+    kept: bool,
     port: &mut [u8; 102],
     plan: Plan,
     out: Setup,
     source_list: &mut [u8],
     target_list: &mut [u8],
 ) -> Placed
-    ensures { λ z. ⌜ (z ≡ placedIn (callIn (now (port .entry)) ∷ []) plan out (length (now («source_list» .entry))) (length (now («target_list» .entry))))
-        × (now (port .exit) ≡ portAfter (now (port .entry)) (turned (callIn (now (port .entry)) ∷ []) (outcomeIn (callIn (now (port .entry)) ∷ []) plan out (length (now («source_list» .entry))) (length (now («target_list» .entry))))))
-        × (callIn (now (port .exit)) ≡ recordAt (rowAfter (callIn (now (port .entry)) ∷ []) plan out (length (now («source_list» .entry))) (length (now («target_list» .entry)))) 0)
-        × (now («source_list» .exit) ≡ sourceList plan out (outcomeIn (callIn (now (port .entry)) ∷ []) plan out (length (now («source_list» .entry))) (length (now («target_list» .entry)))) (now («source_list» .entry)))
-        × (now («target_list» .exit) ≡ targetList plan out (outcomeIn (callIn (now (port .entry)) ∷ []) plan out (length (now («source_list» .entry))) (length (now («target_list» .entry)))) (now («target_list» .entry))) ⌝ }
+    ensures { λ z. ⌜ (z ≡ placedInBy kept (callIn (now (port .entry)) ∷ []) plan out (length (now («source_list» .entry))) (length (now («target_list» .entry))))
+        × (now (port .exit) ≡ portAfter (now (port .entry)) (turned (callIn (now (port .entry)) ∷ []) (outcomeInBy kept (callIn (now (port .entry)) ∷ []) plan out (length (now («source_list» .entry))) (length (now («target_list» .entry))))))
+        × (callIn (now (port .exit)) ≡ recordAt (rowAfterBy kept (callIn (now (port .entry)) ∷ []) plan out (length (now («source_list» .entry))) (length (now («target_list» .entry)))) 0)
+        × (now («source_list» .exit) ≡ sourceList plan out (outcomeInBy kept (callIn (now (port .entry)) ∷ []) plan out (length (now («source_list» .entry))) (length (now («target_list» .entry)))) (now («source_list» .entry)))
+        × (now («target_list» .exit) ≡ targetList plan out (outcomeInBy kept (callIn (now (port .entry)) ∷ []) plan out (length (now («source_list» .entry))) (length (now («target_list» .entry)))) (now («target_list» .entry))) ⌝ }
 {
     let c = port_in(*port);
     let later = placing::port_later(c);
-    let a = routing::route_unless(plan, out, later, source_list, target_list);
+    let a = routing::route_tested(kept, plan, out, later, source_list, target_list);
     port_keep(port, a, c);
     placing::answer_for(a, 0, c)
 }

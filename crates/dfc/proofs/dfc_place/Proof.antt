@@ -45,11 +45,11 @@ same-length-3 c = search needs
 returns : tie.Need-returns
 unfolding placed rowPlaced sourcePlaced targetPlaced roomPlaced
 returns c = (
-  rw (← c .before .before .before .before .before .before .before .before .before .before .before .before .before .before .before .before .before .before .read .ensures .0, c .before .before .before .before .before .before .before .before .before .before .before .before .before .before .before .enum-told .given .1, ← c .before .before .before .before .before .before .before .before .before .before .before .before .before .before .setup-in .ensures, ← c .before .before .before .before .before .before .before .before .before .before .place .ensures .0, ← c .before .received .ensures .0) (c .placed-as .ensures),
-  rw (← c .before .before .before .before .before .before .before .before .before .before .before .before .before .before .before .before .before .before .read .ensures .0, c .before .before .before .before .before .before .before .before .before .before .before .before .before .before .before .enum-told .given .1, ← c .before .before .before .before .before .before .before .before .before .before .before .before .before .before .setup-in .ensures) (c .before .before .before .before .before .before .before .before .before .before .place .ensures .1),
-  rw (← c .before .before .before .before .before .before .before .before .before .before .before .before .before .before .before .before .before .before .read .ensures .0, c .before .before .before .before .before .before .before .before .before .before .before .before .before .before .before .enum-told .given .1, ← c .before .before .before .before .before .before .before .before .before .before .before .before .before .before .setup-in .ensures) (c .before .before .before .before .before .before .before .before .before .before .place .ensures .3),
-  rw (← c .before .before .before .before .before .before .before .before .before .before .before .before .before .before .before .before .before .before .read .ensures .0, c .before .before .before .before .before .before .before .before .before .before .before .before .before .before .before .enum-told .given .1, ← c .before .before .before .before .before .before .before .before .before .before .before .before .before .before .setup-in .ensures) (c .before .before .before .before .before .before .before .before .before .before .place .ensures .4),
-  rw (← c .before .before .before .before .before .before .before .before .before .before .before .before .before .before .before .before .before .before .read .ensures .0, c .before .before .before .before .before .before .before .before .before .before .before .before .before .before .before .enum-told .given .1, ← c .before .before .before .before .before .before .before .before .before .before .before .before .before .before .setup-in .ensures, ← c .before .before .before .before .before .before .before .before .before .before .place .ensures .0) (c .before .received .ensures .1),
+  rw (← c .before .before .before .before .before .before .before .before .before .before .before .before .before .before .before .before .before .before .read .ensures .0, c .before .before .before .before .before .before .before .before .before .before .before .before .before .before .before .enum-told .given .1, c .before .before .before .before .before .before .before .before .before .before .before .before .before .before .before .before .before .before .read .ensures .1 (c .before .before .before .before .before .before .before .before .before .before .before .before .before .before .before .enum-told .given .1), ← c .before .before .before .before .before .before .before .before .before .before .before .before .before .before .setup-in .ensures, ← c .before .before .before .before .before .before .before .before .before .before .place .ensures .0, ← c .before .received .ensures .0) (c .placed-as .ensures),
+  rw (← c .before .before .before .before .before .before .before .before .before .before .before .before .before .before .before .before .before .before .read .ensures .0, c .before .before .before .before .before .before .before .before .before .before .before .before .before .before .before .enum-told .given .1, c .before .before .before .before .before .before .before .before .before .before .before .before .before .before .before .before .before .before .read .ensures .1 (c .before .before .before .before .before .before .before .before .before .before .before .before .before .before .before .enum-told .given .1), ← c .before .before .before .before .before .before .before .before .before .before .before .before .before .before .setup-in .ensures) (c .before .before .before .before .before .before .before .before .before .before .place .ensures .1),
+  rw (← c .before .before .before .before .before .before .before .before .before .before .before .before .before .before .before .before .before .before .read .ensures .0, c .before .before .before .before .before .before .before .before .before .before .before .before .before .before .before .enum-told .given .1, c .before .before .before .before .before .before .before .before .before .before .before .before .before .before .before .before .before .before .read .ensures .1 (c .before .before .before .before .before .before .before .before .before .before .before .before .before .before .before .enum-told .given .1), ← c .before .before .before .before .before .before .before .before .before .before .before .before .before .before .setup-in .ensures) (c .before .before .before .before .before .before .before .before .before .before .place .ensures .3),
+  rw (← c .before .before .before .before .before .before .before .before .before .before .before .before .before .before .before .before .before .before .read .ensures .0, c .before .before .before .before .before .before .before .before .before .before .before .before .before .before .before .enum-told .given .1, c .before .before .before .before .before .before .before .before .before .before .before .before .before .before .before .before .before .before .read .ensures .1 (c .before .before .before .before .before .before .before .before .before .before .before .before .before .before .before .enum-told .given .1), ← c .before .before .before .before .before .before .before .before .before .before .before .before .before .before .setup-in .ensures) (c .before .before .before .before .before .before .before .before .before .before .place .ensures .4),
+  rw (← c .before .before .before .before .before .before .before .before .before .before .before .before .before .before .before .before .before .before .read .ensures .0, c .before .before .before .before .before .before .before .before .before .before .before .before .before .before .before .enum-told .given .1, c .before .before .before .before .before .before .before .before .before .before .before .before .before .before .before .before .before .before .read .ensures .1 (c .before .before .before .before .before .before .before .before .before .before .before .before .before .before .before .enum-told .given .1), ← c .before .before .before .before .before .before .before .before .before .before .before .before .before .before .setup-in .ensures, ← c .before .before .before .before .before .before .before .before .before .before .place .ensures .0) (c .before .received .ensures .1),
 )
 
 returns-2 : tie.Need-returns-2
