@@ -6,6 +6,7 @@ ghost use lib.ListN.{length, take, drop};
 ghost use lib.Seq.{sets};
 ghost use Rattle.planbytes.specs.Numbers.{high, number};
 ghost use Rattle.call.specs.Protocol.{isFree};
+ghost use Rattle.callbytes.specs.Parts.{Blank};
 ghost use Rattle.callbytes.specs.Codec.{stateNumber, statusNumber, statusCode, signalNumber, signalTunnel, signalCode, stateSaid, statusSaid, signalSaid, slotBytes, slotsBytes, callBytes, slotAt, slotsFrom, callIn, callAt, putAt, Fits};
 use call::Call;
 use call::Queue;
@@ -156,13 +157,17 @@ fn put_slot(room: &mut [u8; 102], at: usize, s: Slot)
     room[at + 2] = signal_code(x);
 }
 
+// The places of a queue, into a room that is blank there: most places hold nothing, and a place that holds nothing is 0, so only the others are written.
 fn put_slots(room: &mut [u8; 102], at: usize, slots: [Slot; 16])
-    requires { ⌜ at + 48 ≤ 102 ⌝ }
+    requires { ⌜ (at + 48 ≤ 102) × Blank (now room) at (at + 48) ⌝ }
     ensures { λ r. ⌜ (now (room .exit) ≡ sets (now (room .entry)) at (slotsBytes slots)) × (length slots ≡ 16) ⌝ }
 {
     for i in 0usize..16usize {
         let s = slots[i];
-        put_slot(room, at + 3 * i, s);
+        let x = s.signal;
+        if signal_number(x) != 0 {
+            put_slot(room, at + 3 * i, s);
+        }
     }
 }
 
