@@ -122,7 +122,7 @@ no-argument Target a = refl
 
 -- ---- so it may send on what it received
 
-made-of : (p : Plan) (m : Maker) (s : Setup) (sourceArg : ℕ) (string : List ℕ) (targetArg : ℕ) → Continued p m s sourceArg string targetArg
+made-of : (p : Plan) (m : Maker) (s : Setup) (sourceArg : ℕ) (string : List ℕ) (targetArg : ℕ) → Continued (sound p) p m s sourceArg string targetArg
     → continuedOutcome p m s sourceArg string targetArg ≡ Made
 unfolding continuedOutcomeBy
 made-of p m s sourceArg string targetArg k =
