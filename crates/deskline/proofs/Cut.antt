@@ -22,7 +22,7 @@ use Rattle.making.specs.declared.Maker.{Maker}
 use Rattle.making.specs.declared.Maker.the-variants.{Line}
 use Rattle.making.specs.declared.Answer.{Answer}
 use Rattle.making.specs.declared.Outcome.the-variants.{Refused}
-use Rattle.making.specs.Making.{boxAddress, typeExists, makesNew, addressHeld, unless, newSetup, newOutcome, answered, newAnswer}
+use Rattle.making.specs.Making.{boxAddress, typeExists, makesNew, addressHeld, unless, newSetup, newOutcome, newOutcomeBy, answered, newAnswer}
 use Rattle.journey.specs.Desk.{spaceIn, addressText, stringText, readable, refusedText, told, deskText}
 use Rattle.journey.proofs.Desks.{space-within}
 
@@ -42,7 +42,7 @@ by-tests true false c d s z = refl
 by-tests false b c d s z = refl
 
 refused-alike : (p : Plan) (m : Maker) (x y : List ℕ) → legalString x ≡ false → legalString y ≡ false → newAnswer p m x 0 ≡ newAnswer p m y 0
-unfolding newOutcome
+unfolding newOutcomeBy
 refused-alike p m x y nx ny = rw (nx, ny) (by-tests (sound p) (typeExists p m) (makesNew m) (addressHeld p m) (newSetup (boxAddress m) x 0) (newSetup (boxAddress m) y 0))
 
 -- ---- what stands before the first space is no address where it is longer than 9
