@@ -17,6 +17,13 @@ use Rattle.making.proofs.continued_setup.Reads as continued-setup
 use Rattle.making.proofs.continued_setup.Kinds as continued-setup-kinds
 use Rattle.making.proofs.reversed_setup.Reads as reversed-setup
 use Rattle.making.proofs.reversed_setup.Kinds as reversed-setup-kinds
+use mathlib.Core.Bool.{Bool}
+use Rattle.making.proofs.new_tested.Reads as new-tested
+use Rattle.making.proofs.new_tested.Kinds as new-tested-kinds
+use Rattle.making.proofs.continued_tested.Reads as continued-tested
+use Rattle.making.proofs.continued_tested.Kinds as continued-tested-kinds
+use Rattle.making.proofs.reversed_tested.Reads as reversed-tested
+use Rattle.making.proofs.reversed_tested.Kinds as reversed-tested-kinds
 
 pub new-setup-exact : (κs : Lfts 1) (plan : Plan) (maker : Maker) (string : RefT (List ℕ)) (target : ℕ) (end : AtExit (endedOf 1 new-setup-kinds.ps new-setup-kinds.r) κs) (r s : Answer)
     → new-setup.Post κs (plan, (maker, (string, (target, tt)))) r end → new-setup.Post κs (plan, (maker, (string, (target, tt)))) s end → r ≡ s
@@ -29,3 +36,16 @@ continued-setup-exact κs plan maker setup source string target end r s p q = p 
 pub reversed-setup-exact : (κs : Lfts 1) (plan : Plan) (maker : Maker) (setup : Setup) (source : ℕ) (string : RefT (List ℕ)) (target : ℕ) (end : AtExit (endedOf 1 reversed-setup-kinds.ps reversed-setup-kinds.r) κs) (r s : Answer)
     → reversed-setup.Post κs (plan, (maker, (setup, (source, (string, (target, tt)))))) r end → reversed-setup.Post κs (plan, (maker, (setup, (source, (string, (target, tt)))))) s end → r ≡ s
 reversed-setup-exact κs plan maker setup source string target end r s p q = p .0 ∙ sym (q .0)
+
+-- by a verdict on the plan
+pub new-tested-exact : (κs : Lfts 1) (kept : Bool) (plan : Plan) (maker : Maker) (string : RefT (List ℕ)) (target : ℕ) (end : AtExit (endedOf 1 new-tested-kinds.ps new-tested-kinds.r) κs) (r s : Answer)
+    → new-tested.Post κs (kept, (plan, (maker, (string, (target, tt))))) r end → new-tested.Post κs (kept, (plan, (maker, (string, (target, tt))))) s end → r ≡ s
+new-tested-exact κs kept plan maker string target end r s p q = p ∙ sym q
+
+pub continued-tested-exact : (κs : Lfts 1) (kept : Bool) (plan : Plan) (maker : Maker) (setup : Setup) (source : ℕ) (string : RefT (List ℕ)) (target : ℕ) (end : AtExit (endedOf 1 continued-tested-kinds.ps continued-tested-kinds.r) κs) (r s : Answer)
+    → continued-tested.Post κs (kept, (plan, (maker, (setup, (source, (string, (target, tt))))))) r end → continued-tested.Post κs (kept, (plan, (maker, (setup, (source, (string, (target, tt))))))) s end → r ≡ s
+continued-tested-exact κs kept plan maker setup source string target end r s p q = p ∙ sym q
+
+pub reversed-tested-exact : (κs : Lfts 1) (kept : Bool) (plan : Plan) (maker : Maker) (setup : Setup) (source : ℕ) (string : RefT (List ℕ)) (target : ℕ) (end : AtExit (endedOf 1 reversed-tested-kinds.ps reversed-tested-kinds.r) κs) (r s : Answer)
+    → reversed-tested.Post κs (kept, (plan, (maker, (setup, (source, (string, (target, tt))))))) r end → reversed-tested.Post κs (kept, (plan, (maker, (setup, (source, (string, (target, tt))))))) s end → r ≡ s
+reversed-tested-exact κs kept plan maker setup source string target end r s p q = p ∙ sym q

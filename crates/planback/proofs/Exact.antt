@@ -11,7 +11,13 @@ use Rattle.plan.specs.declared.Plan.{Plan}
 use Rattle.planread.specs.declared.Reading.{Reading}
 use Rattle.planback.proofs.there_and_back.Reads as there-and-back
 use Rattle.planback.proofs.there_and_back.Kinds as there-and-back-kinds
+use Rattle.planback.proofs.read.Reads as read
+use Rattle.planback.proofs.read.Kinds as read-kinds
 
 pub there-and-back-exact : (κs : Lfts 1) (plan : Plan) (room : RefT (List ℕ)) (end end′ : AtExit (endedOf 1 there-and-back-kinds.ps there-and-back-kinds.r) κs) (r s : Reading)
     → there-and-back.Post κs (plan, (room, tt)) r end → there-and-back.Post κs (plan, (room, tt)) s end′ → (r ≡ s) × (end .1 .0 .now ≡ end′ .1 .0 .now)
 there-and-back-exact κs plan room end end′ r s p q = (p .0 ∙ sym (q .0), p .1 ∙ sym (q .1))
+
+pub read-exact : (κs : Lfts 1) (file : RefT (List ℕ)) (end end′ : AtExit (endedOf 1 read-kinds.ps read-kinds.r) κs) (r s : Reading)
+    → read.Post κs (file, tt) r end → read.Post κs (file, tt) s end′ → r ≡ s
+read-exact κs file end end′ r s p q = p .0 ∙ sym (q .0)

@@ -19,6 +19,9 @@ use Rattle.routing.proofs.route.Reads as route
 use Rattle.routing.proofs.route.Kinds as route-kinds
 use Rattle.routing.proofs.route_unless.Reads as route-unless
 use Rattle.routing.proofs.route_unless.Kinds as route-unless-kinds
+use mathlib.Core.Bool.{Bool}
+use Rattle.routing.proofs.route_tested.Reads as route-tested
+use Rattle.routing.proofs.route_tested.Kinds as route-tested-kinds
 
 pub route-exact : (κs : Lfts 2) (plan : Plan) (out : Setup) (source target : RefT (List ℕ)) (end end′ : AtExit (endedOf 2 route-kinds.ps route-kinds.r) κs) (r s : Answer)
     → route.Post κs (plan, (out, (source, (target, tt)))) r end → route.Post κs (plan, (out, (source, (target, tt)))) s end′
@@ -42,3 +45,9 @@ pub route-unless-numbered : (κs : Lfts 2) (plan : Plan) (out : Setup) (later : 
     → (numberOfOutcome (r .outcome) ≡ numberGiven plan out later (length (source .now)) (length (target .now)))
     × (placeOfOutcome (r .outcome) ≡ placeGiven plan out later (length (source .now)) (length (target .now)))
 route-unless-numbered κs plan out later source target end r p = said plan out later (length (source .now)) (length (target .now)) r (p .0)
+
+-- by a verdict on the plan
+pub route-tested-exact : (κs : Lfts 2) (kept : Bool) (plan : Plan) (out : Setup) (later : Later) (source target : RefT (List ℕ)) (end end′ : AtExit (endedOf 2 route-tested-kinds.ps route-tested-kinds.r) κs) (r s : Answer)
+    → route-tested.Post κs (kept, (plan, (out, (later, (source, (target, tt)))))) r end → route-tested.Post κs (kept, (plan, (out, (later, (source, (target, tt)))))) s end′
+    → (r ≡ s) × (end .1 .1 .1 .1 .0 .now ≡ end′ .1 .1 .1 .1 .0 .now) × (end .1 .1 .1 .1 .1 .0 .now ≡ end′ .1 .1 .1 .1 .1 .0 .now)
+route-tested-exact κs kept plan out later source target end end′ r s p q = (p .0 ∙ sym (q .0), p .1 ∙ sym (q .1), p .2 ∙ sym (q .2))
