@@ -353,45 +353,40 @@ static void further(const setup *from, setup *s, int to, bool reversing, uint8_t
     else set_string(s, from->string, from->string_len);
 }
 
-dfc_answer peer_continued(const uint8_t *file, size_t file_size, uint8_t kind, uint8_t type, uint32_t address, const uint8_t *received,
-                          size_t received_size, uint32_t source, const uint8_t *string, size_t string_size, uint32_t target,
-                          uint8_t made[DFC_SETUP]) {
+/* A setup from another one, continued or reversed: 4 is for reversing, 6 for continuing, and only a list is continued. */
+static dfc_answer made_further(bool reversing, const uint8_t *file, size_t file_size, uint8_t kind, uint8_t type, uint32_t address,
+                               const uint8_t *stored, size_t stored_size, uint32_t source, const uint8_t *string, size_t string_size,
+                               uint32_t target, uint8_t made[DFC_SETUP]) {
     plan p;
     setup from, s;
     dfc_answer a = read_plan(file, file_size, &p);
     if (a.number != 0) return a;
     unsigned no = maker_refused(&p, kind, type, address, false);
     if (no != 0) return answer(no, 0);
-    if (!read_setup(received, received_size, &from) || !well_formed(&p, &from) || from.route != LISTED) return answer(5, 0);
-    if (routing_address(&from) != address) return answer(6, 0);
+    if (reversing && !member(p.reversible, type)) return answer(4, 0);
+    if (!read_setup(stored, stored_size, &from) || !well_formed(&p, &from)) return answer(5, 0);
+    if (!reversing && from.route != LISTED) return answer(5, 0);
+    if (!reversing && routing_address(&from) != address) return answer(6, 0);
     if (!legal_string(string, string_size)) return answer(7, 0);
-    uint32_t given = from.region == DFC_SOURCE ? source : target;
+    int to = (from.region == DFC_SOURCE) == reversing ? DFC_TARGET : DFC_SOURCE;
+    uint32_t given = to == DFC_SOURCE ? source : target;
     if (given != 0 && given == address) return answer(8, 0);
     if (source > MAX_ADDRESS || target > MAX_ADDRESS) return answer(9, 0);
-    further(&from, &s, from.region, false, type, address, source, string, string_size, target);
+    further(&from, &s, to, reversing, type, address, source, string, string_size, target);
     write_setup(&s, made);
     return answer(0, DFC_SETUP);
+}
+
+dfc_answer peer_continued(const uint8_t *file, size_t file_size, uint8_t kind, uint8_t type, uint32_t address, const uint8_t *received,
+                          size_t received_size, uint32_t source, const uint8_t *string, size_t string_size, uint32_t target,
+                          uint8_t made[DFC_SETUP]) {
+    return made_further(false, file, file_size, kind, type, address, received, received_size, source, string, string_size, target, made);
 }
 
 dfc_answer peer_reversed(const uint8_t *file, size_t file_size, uint8_t kind, uint8_t type, uint32_t address, const uint8_t *sent,
                          size_t sent_size, uint32_t source, const uint8_t *string, size_t string_size, uint32_t target,
                          uint8_t made[DFC_SETUP]) {
-    plan p;
-    setup from, s;
-    dfc_answer a = read_plan(file, file_size, &p);
-    if (a.number != 0) return a;
-    unsigned no = maker_refused(&p, kind, type, address, false);
-    if (no != 0) return answer(no, 0);
-    if (!member(p.reversible, type)) return answer(4, 0);
-    if (!read_setup(sent, sent_size, &from) || !well_formed(&p, &from)) return answer(5, 0);
-    if (!legal_string(string, string_size)) return answer(7, 0);
-    int to = from.region == DFC_SOURCE ? DFC_TARGET : DFC_SOURCE;
-    uint32_t given = to == DFC_SOURCE ? source : target;
-    if (given != 0 && given == address) return answer(8, 0);
-    if (source > MAX_ADDRESS || target > MAX_ADDRESS) return answer(9, 0);
-    further(&from, &s, to, true, type, address, source, string, string_size, target);
-    write_setup(&s, made);
-    return answer(0, DFC_SETUP);
+    return made_further(true, file, file_size, kind, type, address, sent, sent_size, source, string, string_size, target, made);
 }
 
 /* ---- routing */
