@@ -322,7 +322,7 @@ fn answered(outcome: Outcome, s: Setup) -> Answer
     }
 }
 
-// The same by a verdict on the plan, for a caller that has it already: `kept` says whether the plan is sound. Nothing else is taken on trust.
+// A new setup by a verdict on the plan, for a caller that has it already: `kept` says whether the plan is sound. Nothing else is taken on trust.
 pub fn new_tested(kept: bool, plan: Plan, maker: Maker, string: &[u8], target_arg: u32) -> Answer
     ensures { λ r. ⌜ r ≡ newAnswerBy kept plan maker (now (string .entry)) «target_arg» ⌝ }
 {
@@ -340,7 +340,7 @@ pub fn new_setup(plan: Plan, maker: Maker, string: &[u8], target_arg: u32) -> An
     new_tested(kept, plan, maker, string, target_arg)
 }
 
-// The same by a verdict on the plan, for a caller that has it already: `kept` says whether the plan is sound. Nothing else is taken on trust.
+// A setup continued by a verdict on the plan, for a caller that has it already: `kept` says whether the plan is sound. Nothing else is taken on trust.
 pub fn continued_tested(
     kept: bool,
     plan: Plan,
@@ -373,7 +373,7 @@ pub fn continued_setup(
     continued_tested(kept, plan, maker, s, source_arg, string, target_arg)
 }
 
-// The same by a verdict on the plan, for a caller that has it already: `kept` says whether the plan is sound. Nothing else is taken on trust.
+// A setup reversed by a verdict on the plan, for a caller that has it already: `kept` says whether the plan is sound. Nothing else is taken on trust.
 pub fn reversed_tested(
     kept: bool,
     plan: Plan,

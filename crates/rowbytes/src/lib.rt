@@ -150,7 +150,7 @@ fn keep(row: &mut [u8], r: usize, a: routing::Answer, c: Call)
     }
 }
 
-// A call is placed in the row's lowest free record.
+// A call is placed in the row's lowest free record, by a verdict on the plan, which the caller has: `kept` says whether the plan is sound.
 pub fn place(
     kept: bool,
     row: &mut [u8],
@@ -212,7 +212,7 @@ fn port_keep(port: &mut [u8; 102], a: routing::Answer, c: Call)
     }
 }
 
-// A call is placed in the port's record, as in a row of one.
+// A call is placed in the port's record, as in a row of one, by a verdict on the plan.
 pub fn port_place(
     kept: bool,
     port: &mut [u8; 102],
