@@ -1,4 +1,4 @@
-/* The peer: the operations of dfc.h a second time, written in C from document 01 and from nothing else of this repository. */
+/* The peer: the operations of dfc.h a second time, written in C from document 01 and dfc.h. */
 #ifndef PEER_H
 #define PEER_H
 #include "../include/dfc.h"

@@ -3,6 +3,7 @@
 #define RANDOM_H
 #include <stdint.h>
 #include <stddef.h>
+#include <stdbool.h>
 #include <string.h>
 
 /* The longest plan file has 6,436 bytes; a damaged one may be longer. */
@@ -100,7 +101,8 @@ static inline void random_plan(rng *r, any_plan *p, unsigned count) {
     uint32_t one_in = 1 + below(r, 12);
     random_order(r, p->row[0], rank[0], source, reversible, one_in);
     random_order(r, p->row[1], rank[1], target, reversible, one_in);
-    uint32_t address = 0, step = chance(r, 2) ? 3 : 3000000, line = 1, other = 20000 + below(r, 20000);
+    uint32_t address = 0, step = chance(r, 2) ? 3 : 3000000, line = 0, other = 20000 + below(r, 20000);
+    bool from_the_top = chance(r, 3); /* lines have 65,535 and the numbers below it, or 1 and those above */
     p->count = count;
     for (unsigned i = 0; i < count; i++) {
         any_subscriber *s = &p->sub[i];
@@ -111,7 +113,9 @@ static inline void random_plan(rng *r, any_plan *p, unsigned count) {
         s->source = (random_set(r, source) & ~reversible) | twice;
         s->target = (random_set(r, target) & ~reversible) | twice;
         s->boxes = s->kind == 1 ? 1 : s->kind == 2 ? (uint8_t)below(r, 5) : s->kind == 3 ? (uint8_t)(1 + below(r, 4)) : 0;
-        for (int j = 0; j < s->boxes; j++) s->box[j] = (uint16_t)(s->kind == 1 ? line++ : other + 10000u * (s->kind - 2u) + 7u * below(r, 40) + (uint32_t)j);
+        if (s->kind == 1) line++;
+        for (int j = 0; j < s->boxes; j++)
+            s->box[j] = (uint16_t)(s->kind != 1 ? other + 10000u * (s->kind - 2u) + 7u * below(r, 40) + (uint32_t)j : from_the_top ? 65536 - line : line);
         for (int j = 1; j < s->boxes; j++)
             for (int k = 0; k < j; k++)
                 if (s->box[k] == s->box[j]) s->box[j]++, k = -1;
@@ -140,7 +144,7 @@ static inline void break_plan(rng *r, any_plan *p) {
     case 7: s->box[below(r, 4)] = o->box[below(r, 4)]; break;
     case 8: s->address = chance(r, 2) ? o->address : (uint32_t)(rnd(r) >> 32); break;
     case 9: s->address = 999999999u + below(r, 2); break;
-    case 10: s->box[below(r, 4)] = (uint16_t)below(r, 3); break;
+    case 10: s->box[below(r, 4)] = (uint16_t)(below(r, 6) - 3); break; /* 65,533 to 2 */
     default: { int a = (int)below(r, 32), b = (int)below(r, 32), x = (int)below(r, 2); uint32_t t = p->row[x][a]; p->row[x][a] = p->row[x][b], p->row[x][b] = t; }
     }
 }

@@ -1,7 +1,7 @@
 /* dfc.h: Plaivoreh's call-routing core for C programs.
  *
  * The archive libdfc.a (made by `rt staticlib dfc`, for x86-64 Linux) has the functions below. Each is proved to give exactly
- * the answer that document 01 gives, for any bytes and any numbers: no call crashes, hangs, allocates, keeps state between calls
+ * the answer that document 01 gives, with the byte forms and numbers below, for any bytes and any numbers: no call crashes, hangs, allocates, keeps state between calls
  * or looks at memory that it was not lent.
  *
  * MEMORY. The caller owns all of it. A function reads and writes only what is lent to it, for as long as the call lasts, and keeps
@@ -9,7 +9,7 @@
  * Memory that a function may write (a parameter without const) must not overlap any other that is lent to the same call.
  * A refusal leaves all lent memory as it was.
  * STACK. Have 256 kB of stack free for a call.
- * THREADS. Calls on different memory may run at the same time.
+ * THREADS. Calls may run at the same time, unless one may write memory that another is lent; a plan that several only read is fine.
  *
  * ANSWERS. number 0: accepted, and value is what the function says. Any other number is a refusal of document 01:
  *    1  feature box whose type does not exist          9  an address argument above 999,999,999
@@ -19,7 +19,8 @@
  *    4  reversed by a type that is not reversible     22  a length that the tag never has
  *    5  setup not well formed, bytes that are no      23  a rule of the plan is broken
  *       setup, or continued from no list              24  the 257th subscriber
- *    6  continued by a box it is not routed to        25  room too short for the plan file (place 0)
+ *    6  continued: the setup's routing address is    25  room too short for the plan file (place 0; 6,436
+ *       not the box's                                     bytes are always enough)
  *    7  string too long, or with another symbol
  *    8  the new routing address is the box's own
  * and of calls:
@@ -28,11 +29,11 @@
  *   11  no free record                                16  a row of more than 1,024 records
  *   12  the end's state forbids it                    17  a broken record: a count above 16, a signal that the
  *   13  14 signals or more wait there already             end can't take, or no room for the signals sent
- * For 20 to 25 value is the place: in a plan file the first byte of the field, counted from 0. For the others it is 0.
+ * For 20 to 25 value is the place: in a plan file the first byte of the field, counted from 0, or of what follows the end field. For the others it is 0.
  * Of several refusals the plan file's comes first, then the lowest number; routing has 5 before 18, placing 5, 18, 16, 11; a command
  * has 16, 10, then 17 for a count, 12, 15, 13, 14, and 17 for the rest.
  *
- * EXAMPLE (host/example.c is this, whole):
+ * EXAMPLE (host/example.c is a whole program that does this):
  *
  *    uint8_t sent[DFC_SETUP], got[DFC_SETUP], source[32], target[32];
  *    dfc_answer a = dfc_new(plan, plan_size, DFC_LINE, 0, 200, (const uint8_t *)"300", 3, 0, sent);
@@ -72,7 +73,8 @@ enum { DFC_SOURCE = 0, DFC_TARGET = 1 };
  *        35    7     33  the string: how many symbols (0 to 32), then 32 places, as ASCII 0-9 * #
  *        71    8     33  the list: how many types (0 to 32), then 32 places
  *       107  127      0
- * What stands in a place past a string's or list's length does not count; setups made here have 0 there.
+ * What stands in a place past a string's or list's length does not count, nor does the list's field at all where the route is not a list; setups made
+ * here have 0 there.
  * Bytes that are not of this form, or not 110, are refused where a setup that is not well formed would be: with 5, or with an earlier refusal that applies. */
 #define DFC_SETUP 110
 
@@ -100,22 +102,25 @@ dfc_answer dfc_write(const uint8_t *file, size_t file_size, uint8_t *room, size_
 dfc_answer dfc_zone(const uint8_t *file, size_t file_size, uint8_t region, uint32_t address, uint8_t types[32]);
 
 /* A new setup by a box: kind DFC_FEATURE with its type and address, DFC_LINE or DFC_TRUNK with the source address it names; a resource
- * and the error box (any kind above 3) may make none. string has string_size symbols; target is 0 for none. value DFC_SETUP, and the setup in made. */
+ * and the error box (any kind above 3) may make none. string has string_size symbols; target is 0 for none. value DFC_SETUP, and the setup in made.
+ * Refusals 20 to 24, 1, 2, 3, 7, 9. */
 dfc_answer dfc_new(const uint8_t *file, size_t file_size, uint8_t kind, uint8_t type, uint32_t address, const uint8_t *string,
                    size_t string_size, uint32_t target, uint8_t made[DFC_SETUP]);
 
-/* A setup that the feature box received, continued. source, string and target are arguments, 0 or empty for none. */
+/* A setup that the feature box received, continued. source, string and target are arguments, 0 or empty for none. value DFC_SETUP, and the setup in made.
+ * No other kind of box may do this. Refusals 20 to 24, 1, 2, 3, 5 to 9. */
 dfc_answer dfc_continued(const uint8_t *file, size_t file_size, uint8_t kind, uint8_t type, uint32_t address, const uint8_t *received,
                          size_t received_size, uint32_t source, const uint8_t *string, size_t string_size, uint32_t target,
                          uint8_t made[DFC_SETUP]);
 
-/* A setup that the feature box once sent, reversed. */
+/* A setup that the feature box once sent, reversed; otherwise as dfc_continued. Refusals 20 to 24, 1 to 5, 7, 8, 9. */
 dfc_answer dfc_reversed(const uint8_t *file, size_t file_size, uint8_t kind, uint8_t type, uint32_t address, const uint8_t *sent,
                         size_t sent_size, uint32_t source, const uint8_t *string, size_t string_size, uint32_t target,
                         uint8_t made[DFC_SETUP]);
 
 /* A setup routed: the callee box, and in received the setup that it gets. source_list and target_list, 32 bytes or more each, are given the
- * source's zone and the target's; their bytes past these stay. */
+ * source's zone and the target's (of a setup without a target, that of the address its string embeds); their bytes past these stay.
+ * Refusals 20 to 24, 5, 18. */
 dfc_routed dfc_route(const uint8_t *file, size_t file_size, const uint8_t *sent, size_t sent_size, uint8_t *source_list,
                      size_t source_size, uint8_t *target_list, size_t target_size, uint8_t received[DFC_SETUP]);
 
@@ -130,9 +135,9 @@ dfc_routed dfc_route(const uint8_t *file, size_t file_size, const uint8_t *sent,
  *        53  the same for the callee
  * A record is free when both states are 0. A row is a run of records one after the other: size / DFC_CALL of them, counted from 0, at most 1,024;
  * bytes past the last whole record are never looked at or written. A port is one record. The memory is the caller's, and so is what stands in it:
- * any bytes are a record. A state above 4 stands for 4, a signal above DFC_SPECIAL for DFC_SPECIAL, and a tunnel or code that a signal has no use
- * for does not count. What is accepted writes the one record that it is about, all its bytes, in the form above (0 where a signal has no tunnel or
- * code, and 0 0 0 in a place that was emptied); every other byte stays. */
+ * any bytes are a record. A state above 4 stands for 4, a signal above DFC_SPECIAL for DFC_SPECIAL; a tunnel or code of the first three signals, and a
+ * code of DFC_UNKNOWN to DFC_NONE, do not count. What is accepted writes the one record that it is about, all its bytes, in the form above (0 where
+ * a signal has no tunnel or code); a delivery moves the places one down and puts 0 0 0 in the last. Every other byte stays. */
 #define DFC_CALL 102
 
 /* Signals. The first three carry nothing; DFC_UNKNOWN to DFC_NONE are ordinary in tunnel 0; DFC_DTMF in a tunnel from 1 on with a code
@@ -163,15 +168,16 @@ typedef struct {
     uint64_t use_number;    /* how often calls were placed there since it was cleared, modulo 65,536; commands name both */
 } dfc_placed;
 
-/* Every record of a row cleared: ends idle, queues empty, use number 0. With size DFC_CALL it clears a port. */
+/* Every record of a row cleared: ends idle, queues empty, use number 0. With size DFC_CALL it clears a port.
+ * A row of any length is cleared. */
 void dfc_clear(uint8_t *row, size_t row_size);
 
 /* A call placed: the setup is routed as by dfc_route, and the lowest free record of the row takes the call, the caller requesting, the callee waiting,
- * the queues empty and the use number one higher (65,535 is followed by 0). */
+ * the queues empty and the use number one higher (65,535 is followed by 0). Refusals 20 to 24, 5, 18, 16, 11; in a port 20 to 24, 5, 18, 11. */
 dfc_placed dfc_place(const uint8_t *file, size_t file_size, const uint8_t *sent, size_t sent_size, uint8_t *row, size_t row_size,
                      uint8_t *source_list, size_t source_size, uint8_t *target_list, size_t target_size, uint8_t received[DFC_SETUP]);
 
-/* A command for the call in the record with this number and this use number. */
+/* A command for the call in the record with this number and this use number. Refusals 16, 10, 12 to 15, 17. */
 dfc_commanded dfc_command(uint8_t *row, size_t row_size, size_t record_number, uint16_t use_number, uint8_t kind, uint8_t side, uint8_t signal,
                           uint8_t tunnel, uint8_t code);
 
