@@ -520,7 +520,7 @@ static bool is_free(const uint8_t *b) { return b[0] == IDLE && b[1] == IDLE; }
 static bool ordinary(waiting w) {
     if (w.signal == DFC_SPECIAL) return true;
     if (w.signal == DFC_DTMF) return w.tunnel > 0 && w.code < 12;
-    return w.signal >= DFC_UNKNOWN && w.tunnel == 0;
+    return w.signal >= DFC_UNKNOWN && w.signal < DFC_DTMF && w.tunnel == 0;
 }
 
 static void push(queue *q, uint8_t signal, uint8_t tunnel, uint8_t code) { q->at[q->count++] = (waiting){signal, tunnel, code}; }
@@ -560,7 +560,7 @@ static dfc_commanded step(call *c, uint8_t kind, uint8_t side, uint8_t signal, u
             *state = UNLINKING;
         }
     } else if (kind == DFC_SEND) {
-        waiting w = {signal >= DFC_UNKNOWN && signal <= DFC_DTMF ? signal : DFC_SPECIAL, tunnel, 0};
+        waiting w = {signal, tunnel, 0};
         if (has_code(w.signal)) w.code = code;
         if (*state != LINKED) return (dfc_commanded){12, 0, 0, 0, 0};
         if (!ordinary(w)) return (dfc_commanded){15, 0, 0, 0, 0};

@@ -146,7 +146,7 @@ enum { DFC_UPACK = 0, DFC_TEARDOWN = 1, DFC_DOWNACK = 2, DFC_UNKNOWN = 3, DFC_AV
 /* Sides: any number but 0 is the callee. */
 enum { DFC_CALLER = 0, DFC_CALLEE = 1 };
 /* Commands. The callee answers once: accept, busy or unobtainable; these name no side. Send is an ordinary signal from a side, by signal (any number but
- * DFC_UNKNOWN to DFC_DTMF stands for DFC_SPECIAL), tunnel and code; teardown is from a side too; deliver, and any number above, hands the oldest signal
+ * DFC_UNKNOWN to DFC_SPECIAL is no ordinary signal: 15), tunnel and code; teardown is from a side too; deliver, and any number above, hands the oldest signal
  * that waits for a side over to it. Arguments that a command has no use for do not count. */
 enum { DFC_ACCEPT = 0, DFC_BUSY = 1, DFC_UNOBTAINABLE = 2, DFC_SEND = 3, DFC_SEND_TEARDOWN = 4, DFC_DELIVER = 5 };
 

@@ -2,7 +2,7 @@
 use Prim.Native.Nat.{ℕ}
 use mathlib.Core.Bool.{cond}
 use mathlib.Core.List.{List, [], _∷_}
-use lib.Dec.{eqb}
+use lib.Dec.{eqb, ltb}
 use Rattle.refusal.specs.Numbers.{numberOf}
 use Rattle.plan.specs.declared.Verdict.{Verdict}
 use Rattle.plan.specs.declared.Verdict.the-variants.{Sound, Refused}
@@ -19,6 +19,8 @@ use Rattle.call.specs.declared.Answer.the-variants.{Accepted, Delivered, Refuse
 use Rattle.call.specs.Row.{Reply, placed-at, says, lowestFree}
 use Rattle.placing.specs.declared.Placed.{Placed as Placing}
 use Rattle.placing.specs.Rows.{outcomeIn, turned, placedIn}
+use Rattle.ends.specs.declared.Status.{Status}
+use Rattle.ends.specs.declared.Status.the-variants.{Dtmf}
 use Rattle.callbytes.specs.Codec.{statusSaid, signalNumber, signalTunnel, signalCode, callIn}
 use Rattle.rowbytes.specs.Rows.{rowIn, after, portAfter}
 use Rattle.dfc.specs.declared.Routed.{Routed}
@@ -33,13 +35,17 @@ use Rattle.dfc.specs.Routes.{notRouted, routedSaid, routedRoom}
 abbrev pub sideOf : ℕ → Side
 sideOf n = cond (eqb n 0) Caller Callee
 
+-- the status that is sent: 3 to 8 as in a record's bytes; any other number is no ordinary signal, and is told as a dtmf without a symbol, which no tunnel has, so that sending it is refused
+abbrev pub statusOf : ℕ → ℕ → Status
+statusOf n code = cond (ltb n 3) (Dtmf 255) (cond (ltb 8 n) (Dtmf 255) (statusSaid n code))
+
 -- 0 accept, 1 busy, 2 unobtainable, 3 send, 4 teardown, any other number deliver; what a command has no use for does not count
 abbrev pub commandOf : ℕ → ℕ → ℕ → ℕ → ℕ → Command
 commandOf kind side signal tunnel code =
     cond (eqb kind 0) Accept
     (cond (eqb kind 1) Busy
     (cond (eqb kind 2) Unobtainable
-    (cond (eqb kind 3) (Send (sideOf side) tunnel (statusSaid signal code))
+    (cond (eqb kind 3) (Send (sideOf side) tunnel (statusOf signal code))
     (cond (eqb kind 4) (Teardown (sideOf side)) (Deliver (sideOf side))))))
 
 -- number 0, and 1 and the signal where one was handed over; or the refusal's number, and zeros

@@ -394,9 +394,10 @@ ghost use Rattle.call.specs.Protocol.{step};
 ghost use Rattle.call.specs.Row.{turn, command as by-command};
 ghost use Rattle.callbytes.specs.Codec.{callIn};
 ghost use Rattle.rowbytes.specs.Rows.{rowIn, clearedIn, after, portCommanded};
-ghost use Rattle.dfc.specs.Calls.{sideOf, commandOf, commandedSaid, replySaid, placedAs, placed, rowPlaced, portPlaced, sourcePlaced, targetPlaced, roomPlaced};
+ghost use Rattle.dfc.specs.Calls.{sideOf, statusOf, commandOf, commandedSaid, replySaid, placedAs, placed, rowPlaced, portPlaced, sourcePlaced, targetPlaced, roomPlaced};
 use call::Command;
 use call::Side;
+use ends::Status;
 
 // Number 0, and 1 and the signal where one was handed over; or the refusal's number, and zeros.
 #[repr(C)]
@@ -426,6 +427,19 @@ fn side_of(n: u8) -> Side
     if n == 0 { Side::Caller } else { Side::Callee }
 }
 
+// The status that a number says; a number that is no ordinary signal says one that no tunnel has.
+fn status_of(n: u8, code: u8) -> Status
+    ensures { λ r. ⌜ r ≡ statusOf n code ⌝ }
+{
+    if n < 3 {
+        return Status::Dtmf(255);
+    }
+    if 8 < n {
+        return Status::Dtmf(255);
+    }
+    callbytes::status_said(n, code)
+}
+
 fn command_of(kind: u8, side: u8, signal: u8, tunnel: u8, code: u8) -> Command
     ensures { λ r. ⌜ r ≡ commandOf kind side signal tunnel code ⌝ }
 {
@@ -439,7 +453,7 @@ fn command_of(kind: u8, side: u8, signal: u8, tunnel: u8, code: u8) -> Command
         return Command::Unobtainable;
     }
     if kind == 3 {
-        return Command::Send(side_of(side), tunnel, callbytes::status_said(signal, code));
+        return Command::Send(side_of(side), tunnel, status_of(signal, code));
     }
     if kind == 4 {
         return Command::Teardown(side_of(side));

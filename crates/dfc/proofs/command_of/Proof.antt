@@ -16,11 +16,11 @@ returns-3 c = rw (ne-eqb _ 0 (c .before .before .if1 .left), ne-eqb _ 1 (c .befo
 side-of-requires : tie.Need-side-of-requires
 side-of-requires c κs = search needs
 
-status-said-requires : tie.Need-status-said-requires
-status-said-requires c κs = search needs
+status-of-requires : tie.Need-status-of-requires
+status-of-requires c κs = search needs
 
 returns-4 : tie.Need-returns-4
-returns-4 c = rw (ne-eqb _ 0 (c .before .before .before .before .before .if1 .left), ne-eqb _ 1 (c .before .before .before .before .if2 .left), ne-eqb _ 2 (c .before .before .before .if3 .left), eq-eqb _ 3 (c .before .before .if4 .taken), c .status-said .ensures, c .before .side-of .ensures)
+returns-4 c = rw (ne-eqb _ 0 (c .before .before .before .before .before .if1 .left), ne-eqb _ 1 (c .before .before .before .before .if2 .left), ne-eqb _ 2 (c .before .before .before .if3 .left), eq-eqb _ 3 (c .before .before .if4 .taken), c .status-of .ensures, c .before .side-of .ensures)
 
 side-of-requires-2 : tie.Need-side-of-requires-2
 side-of-requires-2 c κs = search needs
@@ -42,7 +42,7 @@ command-of-spec =
     returns-2
     returns-3
     side-of-requires
-    status-said-requires
+    status-of-requires
     returns-4
     side-of-requires-2
     returns-5
