@@ -1,5 +1,5 @@
 -- A call record as 102 bytes: the caller's state, the callee's, the use number (high byte first), then what waits for the caller and what waits for the callee, each a count and 16 places of
--- three bytes: kind, tunnel, code. Any 102 bytes are a record: a number past the last case stands for the last case, and a byte that a kind has no use for does not count. Assumes nothing.
+-- three bytes: kind, tunnel, code. Any 102 bytes are a record: a number past the last case stands for the last case, and a byte that a kind has no use for does not count (tunnel and code of the first three kinds, the code of unknown to none). Assumes nothing.
 use Prim.Native.Nat.{ℕ, zero, suc, _+_, _-_, _<_}
 use mathlib.Core.Path.{_≡_}
 use mathlib.Core.Bool.{cond}
