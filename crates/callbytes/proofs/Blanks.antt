@@ -11,7 +11,8 @@ use Rattle.ends.specs.declared.Signal.{Signal}
 use Rattle.ends.specs.declared.Signal.the-variants.{Upack, Ordinary, Teardown, Downack}
 use Rattle.call.specs.declared.Slot.{Slot}
 use Rattle.callbytes.specs.Parts.{Blank}
-use Rattle.callbytes.specs.Codec.{statusNumber, signalNumber, signalTunnel, signalCode, slotBytes, slotsBytes}
+use Rattle.call.specs.Protocol.{slot, blank}
+use Rattle.callbytes.specs.Codec.{statusNumber, signalNumber, signalTunnel, signalCode, slotBytes, slotsBytes, slotAt}
 use Rattle.callbytes.proofs.Slots.{put-three, bytes-length}
 
 -- ---- a place that holds nothing
@@ -76,3 +77,21 @@ blank-second hd xs n {a} {b} {c} l k pa pb pc =
     let bytes = bytes-length xs in
     let second : Blank b 53 102 = rw pb (blank-past (slotsBytes xs) a 5 5 53 102 first (omega arith) (omega (arith, bytes, k))) in
     rw pc (blank-past (n ∷ []) b 53 53 54 102 second (omega arith) (omega arith))
+
+-- ---- places not read yet
+
+-- the places from i on are blank
+abbrev pub Unread : List Slot → ℕ → Type 0
+Unread places i = (j : ℕ) → i ≤ j → j < 16 → slot places j ≡ blank
+
+pub unread-all : Unread (replicate 16 blank) 0
+unread-all j p q = getD-replicate 16 j blank blank q
+
+pub unread-past : (places : List Slot) (i : ℕ) (s : Slot) → Unread places i → Unread (set places i s) (i + 1)
+unread-past places i s u j p q = getD-set-other places i j s blank (λ e. absurd (omega (arith, p, e))) ∙ u j (omega (arith, p)) q
+
+-- a place of number 0 holds nothing, which is there already
+pub nothing-read : (b : List ℕ) (at i : ℕ) (places : List Slot) → i < 16 → getD b at 0 ≡ 0 → Unread places i → set places i (slotAt b at) ≡ places
+nothing-read b at i places h e u =
+    let none : slotAt b at ≡ blank = rw e refl in
+    ap (set places i) (none ∙ sym (u i (omega arith) h)) ∙ set-getD places i blank

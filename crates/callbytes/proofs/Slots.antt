@@ -12,6 +12,7 @@ use lib.Seq.{sets, drop-cons, sets-eq, getD-drop}
 use lib.Dec.{eqb}
 use Rattle.call.specs.declared.Slot.{Slot}
 use Rattle.ends.specs.declared.State.the-variants.{Idle, Requesting, Waiting, Linked, Unlinking}
+use Rattle.planbytes.specs.Numbers as Numbers
 use Rattle.call.specs.Protocol.{slot, blank, cleared, isIdle, isFree}
 use Rattle.callbytes.specs.Codec.{slotBytes, slotsBytes, stateSaid, slotAt, slotsFrom, callIn, callAt, putAt}
 use Rattle.planwrite.proofs.Puts.{sets-append, puts-then}
@@ -111,6 +112,11 @@ unfolding putAt
 put-past-end b at c h =
     let none : length b - at ≡ 0 = omega arith in
     rw none refl
+
+-- 102 bytes of 0 are the cleared record
+pub zeros-cleared : callIn (replicate 102 0) ≡ cleared
+unfolding callIn slotsFrom Numbers.number Numbers.numberAfter
+zeros-cleared = refl
 
 -- ---- free or not, by two bytes
 

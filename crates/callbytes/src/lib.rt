@@ -5,7 +5,7 @@ ghost use Prim.Native.Nat.{_+_, _*_, _≤_, _<_};
 ghost use lib.ListN.{length, take, drop};
 ghost use lib.Seq.{sets};
 ghost use Rattle.planbytes.specs.Numbers.{high, number};
-ghost use Rattle.call.specs.Protocol.{isFree};
+ghost use Rattle.call.specs.Protocol.{isFree, cleared};
 ghost use Rattle.callbytes.specs.Parts.{Blank};
 ghost use Rattle.callbytes.specs.Codec.{stateNumber, statusNumber, statusCode, signalNumber, signalTunnel, signalCode, stateSaid, statusSaid, signalSaid, slotBytes, slotsBytes, callBytes, slotAt, slotsFrom, callIn, callAt, putAt, Fits};
 use call::Call;
@@ -235,6 +235,7 @@ fn slot_at(b: &[u8], at: usize) -> Slot
     }
 }
 
+// The places of a queue. Most hold nothing, which is the number 0 and what the array begins with, so only the others are read further.
 fn slots_at(b: &[u8], at: usize) -> [Slot; 16]
     requires { ⌜ at + 48 ≤ length (now b) ⌝ }
     ensures { λ r. ⌜ r ≡ slotsFrom 16 (now (b .entry)) at ⌝ }
@@ -244,7 +245,9 @@ fn slots_at(b: &[u8], at: usize) -> [Slot; 16]
     };
     let mut slots = [blank; 16];
     for i in 0usize..16usize {
-        slots[i] = slot_at(b, at + 3 * i);
+        if b[at + 3 * i] != 0 {
+            slots[i] = slot_at(b, at + 3 * i);
+        }
     }
     slots
 }
@@ -279,15 +282,23 @@ fn read_from(b: &[u8], at: usize) -> Call
     read(&b[at..])
 }
 
+// The cleared record, read like any other. Built by `Call::cleared` it has only the first byte of each place, and `call_at`, which answers with either, would copy every record by such pieces.
+fn cleared() -> Call
+    ensures { λ r. ⌜ r ≡ cleared ⌝ }
+{
+    let zeros = [0u8; 102];
+    read(&zeros)
+}
+
 // The record of the 102 bytes from a place on; the cleared record where there are fewer.
 pub fn call_at(b: &[u8], at: usize) -> Call
     ensures { λ r. ⌜ r ≡ callAt (now (b .entry)) at ⌝ }
 {
     if b.len() < at {
-        return Call::cleared();
+        return cleared();
     }
     if b.len() - at < 102 {
-        return Call::cleared();
+        return cleared();
     }
     read_from(b, at)
 }
