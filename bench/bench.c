@@ -7,7 +7,7 @@
 #include <time.h>
 #include <ucontext.h>
 
-#define ROUNDS 15
+#define ROUNDS 101
 #define STACK (512 * 1024)
 
 static uint8_t file[FILE_MAX], room[FILE_MAX], sent[DFC_SETUP], made[DFC_SETUP], list[2][32], types[32];
@@ -104,7 +104,7 @@ static void row(const char *what, void (*ours)(void), void (*peer)(void)) {
     double t[2][ROUNDS];
     void (*f[2])(void) = {ours, peer};
     unsigned n = 1;
-    for (double d = 0; d < 4e6; n *= 2) {
+    for (double d = 0; d < 5e5; n *= 2) {
         double s = now();
         for (unsigned k = 0; k < n; k++) ours();
         d = now() - s;

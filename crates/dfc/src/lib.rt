@@ -129,10 +129,9 @@ pub extern "C" fn dfc_zone(file: &[u8], region: u8, address: u32, types: &mut [u
 {
     let reading = planback::read(file);
     let verdict = reading.answer;
-    let plan = reading.plan;
     match verdict {
         Verdict::Sound => {
-            let zone = zone::zone_at(plan, region_of(region), address);
+            let zone = zone::zone_at(reading.plan, region_of(region), address);
             *types = types_of(zone);
             accepted(zone.len as u64)
         }

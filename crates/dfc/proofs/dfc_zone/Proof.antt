@@ -38,13 +38,13 @@ refused-requires c κs = search needs
 returns : tie.Need-returns
 unfolding zoned typesZoned held
 returns c = (
-  rw (← c .before .before .before .before .before .before .before .before .read .ensures .0, c .before .before .before .before .before .enum-told .given .1, ← c .before .before .before .before .region-of .ensures) (c .accepted .ensures ∙ ap (λ (z : Zone). accepted (z .len)) (c .before .before .before .zone-at .ensures)),
-  rw (← c .before .before .before .before .before .before .before .before .read .ensures .0, c .before .before .before .before .before .enum-told .given .1, ← c .before .before .before .before .region-of .ensures) (c .before .before .types-of .ensures ∙ ap (λ (z : Zone). z .types) (c .before .before .before .zone-at .ensures)),
+  rw (← c .before .before .before .before .before .before .before .read .ensures .0, c .before .before .before .before .before .enum-told .given .1, ← c .before .before .before .before .region-of .ensures) (c .accepted .ensures ∙ ap (λ (z : Zone). accepted (z .len)) (c .before .before .before .zone-at .ensures)),
+  rw (← c .before .before .before .before .before .before .before .read .ensures .0, c .before .before .before .before .before .enum-told .given .1, ← c .before .before .before .before .region-of .ensures) (c .before .before .types-of .ensures ∙ ap (λ (z : Zone). z .types) (c .before .before .before .zone-at .ensures)),
 )
 
 returns-2 : tie.Need-returns-2
 unfolding zoned typesZoned
-returns-2 c = (rw (← c .before .before .before .before .before .read .ensures .0, c .before .before .verdict .given .1) (c .refused .ensures), rw (← c .before .before .before .before .before .read .ensures .0, c .before .before .verdict .given .1) refl)
+returns-2 c = (rw (← c .before .before .before .before .read .ensures .0, c .before .before .verdict .given .1) (c .refused .ensures), rw (← c .before .before .before .before .read .ensures .0, c .before .before .verdict .given .1) refl)
 
 pub dfc-zone-spec : {M : Type 1} → statement M
 dfc-zone-spec =
