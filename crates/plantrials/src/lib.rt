@@ -1,4 +1,10 @@
 // Bytes read and plans written, and what was answered held against what document 01 says, as a line on standard output.
+ghost use mathlib.Core.Path.{_≡_};
+ghost use mathlib.Core.Bool.{_&&_};
+ghost use lib.Dec.{eqb};
+ghost use lib.ListN.{getD, set};
+ghost use Rattle.planread.specs.Reading.{readOf};
+ghost use Rattle.plantrials.specs.Seen.{refusalSeen, verdictSeen, firstSeen};
 use libc::STDOUT_FILENO;
 use plan::Plan;
 use plan::Verdict;
@@ -12,7 +18,9 @@ pub struct Seen {
     pub place: usize,
 }
 
-fn of_refusal(r: Refusal) -> Seen {
+fn of_refusal(r: Refusal) -> Seen
+    ensures { λ s. ⌜ s ≡ refusalSeen r ⌝ }
+{
     match r.place() {
         Place::At(at) => Seen {
             number: r.number(),
@@ -25,7 +33,9 @@ fn of_refusal(r: Refusal) -> Seen {
     }
 }
 
-fn of_reading(bytes: &[u8]) -> Seen {
+fn of_reading(bytes: &[u8]) -> Seen
+    ensures { λ s. ⌜ s ≡ verdictSeen (readOf (now (bytes .entry)) .answer) ⌝ }
+{
     let reading = planread::read(bytes);
     let answer = reading.answer;
     match answer {
@@ -38,7 +48,9 @@ fn of_reading(bytes: &[u8]) -> Seen {
 }
 
 // The first n bytes of a file, read.
-pub fn first(file: &[u8], n: usize) -> Seen {
+pub fn first(file: &[u8], n: usize) -> Seen
+    ensures { λ s. ⌜ s ≡ firstSeen (now (file .entry)) n ⌝ }
+{
     if n <= file.len() {
         of_reading(&file[..n])
     } else {
@@ -49,7 +61,9 @@ pub fn first(file: &[u8], n: usize) -> Seen {
     }
 }
 
-pub fn same(a: Seen, number: u8, place: usize) -> bool {
+pub fn same(a: Seen, number: u8, place: usize) -> bool
+    ensures { λ r. ⌜ r ≡ (eqb (a .number) number && eqb (a .place) place) ⌝ }
+{
     if a.number != number {
         return false;
     }
@@ -78,19 +92,26 @@ pub fn line(what: &[u8], seen: Seen, number: u8, place: usize) {
     }
 }
 
-pub fn put(file: &mut [u8], at: usize, b: u8) {
+// A byte put at a place; nothing past the end.
+pub fn put(file: &mut [u8], at: usize, b: u8)
+    ensures { λ _. ⌜ now (file .exit) ≡ set (now (file .entry)) at b ⌝ }
+{
     if at < file.len() {
         file[at] = b;
     }
 }
 
 // The byte at a place; 0 past the end.
-pub fn byte(file: &[u8], at: usize) -> u8 {
+pub fn byte(file: &[u8], at: usize) -> u8
+    ensures { λ r. ⌜ r ≡ getD (now (file .entry)) at 0 ⌝ }
+{
     if at < file.len() { file[at] } else { 0 }
 }
 
 // The first n bytes with one of them changed; the file is as it was afterwards.
-fn with_byte(file: &mut [u8], n: usize, at: usize, b: u8) -> Seen {
+fn with_byte(file: &mut [u8], n: usize, at: usize, b: u8) -> Seen
+    ensures { λ s. ⌜ (s ≡ firstSeen (set (now (file .entry)) at b) n) × (now (file .exit) ≡ now (file .entry)) ⌝ }
+{
     let old = byte(file, at);
     put(file, at, b);
     let seen = first(file, n);
@@ -99,7 +120,9 @@ fn with_byte(file: &mut [u8], n: usize, at: usize, b: u8) -> Seen {
 }
 
 // The same with two of them changed.
-fn with_two(file: &mut [u8], n: usize, at: usize, b: u8, other: usize, c: u8) -> Seen {
+fn with_two(file: &mut [u8], n: usize, at: usize, b: u8, other: usize, c: u8) -> Seen
+    ensures { λ s. ⌜ (s ≡ firstSeen (set (set (now (file .entry)) at b) other c) n) × (now (file .exit) ≡ now (file .entry)) ⌝ }
+{
     let old = byte(file, at);
     put(file, at, b);
     let seen = with_byte(file, n, other, c);
@@ -107,8 +130,10 @@ fn with_two(file: &mut [u8], n: usize, at: usize, b: u8, other: usize, c: u8) ->
     seen
 }
 
-// Lines for files with one byte, and with two bytes, changed.
-pub fn changed(what: &[u8], file: &mut [u8], n: usize, at: usize, b: u8, number: u8, place: usize) {
+// Lines for files with one byte, and with two bytes, changed; each leaves the file as it was.
+pub fn changed(what: &[u8], file: &mut [u8], n: usize, at: usize, b: u8, number: u8, place: usize)
+    ensures { λ _. ⌜ now (file .exit) ≡ now (file .entry) ⌝ }
+{
     let seen = with_byte(file, n, at, b);
     line(what, seen, number, place);
 }
@@ -123,7 +148,9 @@ pub fn changed_two(
     c: u8,
     number: u8,
     place: usize,
-) {
+)
+    ensures { λ _. ⌜ now (file .exit) ≡ now (file .entry) ⌝ }
+{
     let seen = with_two(file, n, at, b, other, c);
     line(what, seen, number, place);
 }
