@@ -1,4 +1,4 @@
--- The answers of a step and of a command in document 01's numbers (specs/Said.antt). Assumes nothing.
+-- The answers of a step in document 01's numbers (specs/Said.antt). Assumes nothing.
 use Prim.Native.Nat.{ℕ, _+_}
 use mathlib.Core.Path.{_≡_, refl}
 use mathlib.Core.Bool.{Bool, true, false, cond, _&&_}
@@ -6,7 +6,6 @@ use mathlib.Core.List.{List, [], _∷_}
 use mathlib.Core.Logic.{_⊎_, inl, inr, ⊎-elim}
 use lib.ListN.{length}
 use lib.Dec.{ltb, leb}
-use Rattle.refusal.specs.declared.Refusal.the-variants.{NoSuchCall, RowTooLong}
 use Rattle.ends.specs.declared.State.{State}
 use Rattle.ends.specs.declared.State.the-variants.{Idle, Requesting, Waiting, Linked, Unlinking}
 use Rattle.ends.specs.declared.Signal.{Signal}
@@ -15,11 +14,8 @@ use Rattle.call.specs.declared.Call.{Call}
 use Rattle.call.specs.declared.Command.{Command}
 use Rattle.call.specs.declared.Command.the-variants.{Accept, Busy, Unobtainable, Send, Teardown as Hang-up, Deliver}
 use Rattle.ends.specs.declared.Status.{Status}
-use Rattle.call.specs.declared.Step.{Step}
-use Rattle.call.specs.Protocol.{actor, other, stateOf, queueTo, waiting, isOrdinary, isWaiting, isLinked, to, answers, speaks, tears, hears, takes, decide, fit, sends, hands, outcome, step, numberIn, refusing}
-use Rattle.call.specs.Row.{recordAt, named}
-use Rattle.exchange.specs.Lent.{takenAt, commanded}
-use Rattle.exchange.specs.Said.{canTake, numberDecided, orElse, numberStepped, numberCommanded}
+use Rattle.call.specs.Protocol.{actor, other, stateOf, queueTo, waiting, isOrdinary, isWaiting, isLinked, to, answers, speaks, tears, hears, takes, decide, fit, sends, hands, outcome, step, numberIn}
+use Rattle.exchange.specs.Said.{canTake, numberDecided, orElse, numberStepped}
 
 -- ---- an end that does what it was told: 17 where there is no room for what must be sent
 handed : (k : Command) (w : List Signal) → numberIn (hands k w) ≡ 0
@@ -105,13 +101,3 @@ step-number c k =
     rw yes (decided c (queueTo (other (actor k)) c .count + length (sends k (waiting (actor k) c))) k (stateOf (actor k) c) (waiting (actor k) c) (queueTo (other (actor k)) c .count)))
     (λ (no : (leb (c .«to_caller» .count) 16 && leb (c .«to_callee» .count) 16) ≡ false). rw no)
     (yes-or-no (leb (c .«to_caller» .count) 16 && leb (c .«to_callee» .count) 16))
-
--- ---- a command in a row
-by-tests : (c : Call) (s : Step) (n : ℕ) (long fits-in : Bool) → numberIn (s .answer) ≡ n
-    → numberIn (cond long (refusing c RowTooLong) (cond fits-in s (refusing c NoSuchCall)) .answer) ≡ cond long 16 (cond fits-in n 10)
-by-tests c s n true fits-in e = refl
-by-tests c s n false true e = e
-by-tests c s n false false e = refl
-
-pub command-number : (row : List Call) (r u : ℕ) (k : Command) → numberIn (commanded (length row) (takenAt row r) u k .answer) ≡ numberCommanded row r u k
-command-number row r u k = by-tests (recordAt row r) (step (recordAt row r) k) (numberStepped (recordAt row r) k) (ltb 1024 (length row)) (named row r u) (step-number (recordAt row r) k)

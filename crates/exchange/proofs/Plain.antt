@@ -11,8 +11,6 @@ use denote.Array.{Array, each, arrayVal}
 use denote.Struct.Laws as LL
 use Rattle.call.specs.declared.Call.{Call}
 use Rattle.call.specs.declared.Step.{Step}
-use Rattle.call.specs.declared.Answer.{Answer}
-use Rattle.exchange.specs.declared.Answered.{Answered}
 use Rattle.exchange.specs.declared.Taken.{Taken}
 use Rattle.walk.proofs.Lent.{Kind, Ok, of-struct, of-enum, of-array}
 use Rattle.call.proofs.Call as T
@@ -23,8 +21,6 @@ use Rattle.call.proofs.Answer as A
 use Rattle.call.proofs.Answer.Laws as A′
 use Rattle.call.proofs.Step as S
 use Rattle.call.proofs.Step.Laws as S′
-use Rattle.exchange.proofs.Answered as D
-use Rattle.exchange.proofs.Answered.Laws as D′
 use Rattle.exchange.proofs.Taken as K
 use Rattle.exchange.proofs.Taken.Laws as K′
 
@@ -61,15 +57,9 @@ copied t c = record { inside = t; call = c }
 pub copied-ok : (t : Bool) (c : Call) → Ok call c → Ok taken (copied t c)
 copied-ok t c is = LL.owes K.the-type K′.the-laws (copied t c) (refl, (is, tt))
 
--- the records of a row by value, and what a command in it answers
+-- the records of a row by value
 abbrev pub calls : Kind (Array T.the-row 1025)
 calls = of-array call 1025
-
-abbrev pub answered : Kind D.the-row
-answered = of-struct D.the-type D′.the-laws D′.the-copy D′.the-plain
-
-abbrev pub answering : Answer → List Call → Answered
-answering a cs = record { answer = a; calls = cs }
 
 -- each record of a row is as its type asks; and so is a row as the field of a struct, which has the records by their fields
 abbrev AllOk : List Call → Type 0
@@ -98,6 +88,3 @@ field-ok cs is = (map w (map (T.the-field .into) cs), ((refl, long cs ∙ is .1 
 pub by-fields : (cs : List Call) → map (call .val) cs ≡ map w (map (T.the-field .into) cs)
 by-fields [] = refl
 by-fields (c ∷ cs) = ap (call .val c ∷_) (by-fields cs)
-
-pub answering-ok : (a : Answer) (cs : List Call) → Ok answer a → Ok calls cs → Ok answered (answering a cs)
-answering-ok a cs is are = LL.owes D.the-type D′.the-laws (answering a cs) (is, (field-ok cs are, tt))

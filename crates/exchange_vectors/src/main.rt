@@ -73,7 +73,7 @@ fn pair(name: &[u8], number: u8) {
 fn command_number(c: Call, length: usize, r: usize, use_number: u16, k: Command) -> u8 {
     let mut calls = [free(1); 1025];
     calls[1] = c;
-    let z = exchange::command_in(calls, length, r, use_number, k);
+    let z = commanding::command_in(calls, length, r, use_number, k);
     let answer = z.answer;
     answer.number()
 }

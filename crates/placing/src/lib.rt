@@ -167,7 +167,7 @@ pub fn place_in(
         × (now («source_list» .exit) ≡ sourceList plan out (outcomeIn (rowIn calls length) plan out (records (now («source_list» .entry))) (records (now («target_list» .entry)))) (now («source_list» .entry)))
         × (now («target_list» .exit) ≡ targetList plan out (outcomeIn (rowIn calls length) plan out (records (now («source_list» .entry))) (records (now («target_list» .entry)))) (now («target_list» .entry))) ⌝ }
 {
-    let n = exchange::within(length);
+    let n = commanding::within(length);
     let placed = place(&mut calls[..n], plan, out, source_list, target_list);
     RowPlaced { placed, calls }
 }

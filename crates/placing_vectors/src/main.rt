@@ -211,7 +211,7 @@ fn placing_pairs() {
 
 // The number of a command, and the records after it.
 fn does(name: &[u8], calls: [Call; 1025], r: usize, use_number: u16, k: Command) -> [Call; 1025] {
-    let z = exchange::command_in(calls, 2, r, use_number, k);
+    let z = commanding::command_in(calls, 2, r, use_number, k);
     let answer = z.answer;
     pair(name, answer.number());
     z.calls
@@ -288,7 +288,7 @@ fn place_port(port: Call) -> Call {
 }
 
 fn port_does(name: &[u8], port: Call, k: Command) -> Call {
-    let z = exchange::port_command_in(port, k);
+    let z = commanding::port_command_in(port, k);
     let answer = z.answer;
     pair(name, answer.number());
     z.call

@@ -14,7 +14,7 @@ use Rattle.setup.specs.declared.Setup.{Setup}
 use Rattle.routing.specs.declared.Outcome.{Outcome}
 use Rattle.routing.specs.Routing.{sourceList, targetList}
 use Rattle.exchange.specs.Lent.{within as withinOf, rowIn}
-use Rattle.exchange.proofs.Turns.{few}
+use Rattle.commanding.proofs.Turns.{few}
 use Rattle.exchange.proofs.Plain.{by-fields}
 use Rattle.placing.specs.declared.Placed.{Placed}
 use Rattle.placing.specs.declared.RowPlaced.{RowPlaced}
@@ -30,10 +30,10 @@ use Rattle.placing.proofs.Placed as D
 use Rattle.placing.proofs.Placed.Laws as D′
 use Rattle.placing.proofs.RowPlaced as E
 use Rattle.placing.proofs.RowPlaced.Laws as E′
-use Rattle.exchange.proofs.within as within
-use Rattle.exchange.proofs.within.Symbol as within-def
-use Rattle.exchange.proofs.within.Symbol.{name as #exchange·within}
-use Rattle.exchange.proofs.within.Met as within-thm
+use Rattle.commanding.proofs.within as within
+use Rattle.commanding.proofs.within.Symbol as within-def
+use Rattle.commanding.proofs.within.Symbol.{name as #commanding·within}
+use Rattle.commanding.proofs.within.Met as within-thm
 use Rattle.placing.proofs.place as put
 use Rattle.placing.proofs.place.Symbol as put-def
 use Rattle.placing.proofs.place.Symbol.{name as #placing·place}
@@ -136,7 +136,7 @@ module _ {M : Type 1} (𝓤 : URA M) (H : Heap 𝓤) (A : Atoms 𝓤) (W : Given
       nothing ! $ move ! (4 ∷ 0 ∷ []) $ fjoin ! $ move ! (3 ∷ 0 ∷ []) $ fjoin ! $ owned ! U.the-row (Is U.the-row) (setup .makes 𝓤 H A W) s _ s-ok $ fjoin ! $ owned ! P.the-row (Is P.the-row) (plan .makes 𝓤 H A W) p _ p-ok $ fjoin ! $
       move ! (2 ∷ 0 ∷ []) $ fjoin ! $ move ! (1 ∷ 0 ∷ []) $ join ! $ frame ! $ nothing ! $ done !
 
-  module _ (C : Calls 𝓤 H) (Λ : Loops 𝓤 H) (fm : FmC 𝓤 H (W .laws) C) (known-within : Triple 𝓤 (C #exchange·within) (Within 𝓤 H A mem′ run)) (known-place : Triple 𝓤 (C #placing·place) (Place 𝓤 H A mem′ run)) where
+  module _ (C : Calls 𝓤 H) (Λ : Loops 𝓤 H) (fm : FmC 𝓤 H (W .laws) C) (known-within : Triple 𝓤 (C #commanding·within) (Within 𝓤 H A mem′ run)) (known-place : Triple 𝓤 (C #placing·place) (Place 𝓤 H A mem′ run)) where
     walk : ent 𝓤 (onEntry 𝓤 H A fn.signature (y .0 .0) (y .0 .1) (y .0 .3) (y .0 .4)) (WpFn 𝓤 H C Λ code.function (calls .val cs ∷ vint w64 n ∷ plan .val p ∷ setup .val s ∷ v₁ ∷ v₂ ∷ []) Post)
     walk =
         qed W ((‵ (flft κ₁ q₁) ⊛ (‵ (flft κ₂ q₂) ⊛ ‵ ftrue)) ∷ ‵ (owns (Array T.the-row 1025 ∷ usize ∷ P.the-row ∷ U.the-row ∷ MutSlice (named 0) κ₁ u8 ∷ MutSlice (named 1) κ₂ u8 ∷ []) (y .0 .3) (y .0 .4)) ∷ []) ∵
@@ -186,5 +186,5 @@ place-in-spec 𝓤 H 𝓜 𝓖 𝓡 =
     (proves 𝓤 H (𝓖 .A) W ps [] (fn.signature .result) (fn.clauses 𝓤 H (𝓖 .A) (𝓜 .mem) (𝓡 .run)) code.function 𝓣 (λ κs qs bounds a g are. via 𝓤 _ (fst∗ 𝓤 _ (emp 𝓤))
     (walk 𝓤 H (𝓖 .A) W (𝓜 .mem) (𝓡 .run) (κs .0) (κs .1 .0) (qs .0) (qs .1 .0) (a .1 .1 .1 .1 .0 .ptr .0) (a .1 .1 .1 .1 .0 .ptr .1) (a .1 .1 .1 .1 .1 .0 .ptr .0) (a .1 .1 .1 .1 .1 .0 .ptr .1) (a .1 .1 .1 .1 .0 .name) (a .1 .1 .1 .1 .1 .0 .name) (a .0) (a .1 .0) (a .1 .1 .0) (a .1 .1 .1 .0) (a .1 .1 .1 .1 .0 .now) (a .1 .1 .1 .1 .1 .0 .now)
     (are .0) (are .1 .0 .1) (are .1 .1 .0) (are .1 .1 .1 .0) (are .1 .1 .1 .1 .0 .0 .1) (are .1 .1 .1 .1 .1 .0 .0 .1) (𝓣 .C) (𝓣 .Λ) (fmOf 𝓤 H (W .laws) 𝓣)
-    (cited 𝓤 H (Within 𝓤 H (𝓖 .A) (𝓜 .mem) (𝓡 .run)) 𝓜 𝓡 code.env #exchange·within within-def.routine code.calls-exchange·within (within-thm.met 𝓤 H 𝓜 𝓖 𝓡))
+    (cited 𝓤 H (Within 𝓤 H (𝓖 .A) (𝓜 .mem) (𝓡 .run)) 𝓜 𝓡 code.env #commanding·within within-def.routine code.calls-commanding·within (within-thm.met 𝓤 H 𝓜 𝓖 𝓡))
     (cited 𝓤 H (Place 𝓤 H (𝓖 .A) (𝓜 .mem) (𝓡 .run)) 𝓜 𝓡 code.env #placing·place put-def.routine code.calls-placing·place (put-thm.met 𝓤 H 𝓜 𝓖 𝓡)))))

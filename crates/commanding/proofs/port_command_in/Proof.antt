@@ -1,4 +1,4 @@
--- `exchange::port_command_in` meets its contract: a walk of its MIR, by hand. The local record is lent to `port_command` for a lifetime made for the call, and taken back.
+-- `commanding::port_command_in` meets its contract: a walk of its MIR, by hand. The local record is lent to `port_command` for a lifetime made for the call, and taken back.
 -- Assumes nothing.
 use Rattle.walk.proofs.Walk.{_≡_, refl, subst, List, [], _∷_, ℕ, URA, fullShare, named, Val, vptr, SProp, ent, emp, via, fst∗, id⊢, GName, ftrue, fat, flft, Memory, Routine, Heap, Calls, Loops, WpFn, Tables, Atoms, Fun, givenOf, tables, tablesOf, Given, ‵, _⊛_, ⋆, _$_, _∵_, !, qed, by, move, drop, use1, split, join, rewrite, fsplit, fjoin, suffices, done, agg, look, init, stop, from, load, addr, and-then, no-more, of-opd, assigns, land, returns, enter, alloc1, alloc0, params1, pass1, pass0, free0, FmC, fmOf, owns, Is, mem, RefT, MutRef, owned, nothing, Contract, Triple, onEntry, tripleOf, entered, cited, says, walkOf, ends-at}
 use Rattle.walk.proofs.Lent.{Ok, typed, told, free-at, calls-with, lent, env, Param, of-plain, stays, proves, lends-local, takes-local}
@@ -15,14 +15,14 @@ use Rattle.call.proofs.Answer as R
 use Rattle.call.proofs.Answer.Laws as R′
 use Rattle.call.proofs.Step as S
 use Rattle.call.proofs.Step.Laws as S′
-use Rattle.exchange.proofs.port_command as port
-use Rattle.exchange.proofs.port_command.Symbol as port-def
-use Rattle.exchange.proofs.port_command.Symbol.{name as #exchange·port-command}
-use Rattle.exchange.proofs.port_command.Met as port-thm
-use Rattle.exchange.proofs.port_command_in.Key.{name as #exchange·port-command-in}
-use Rattle.exchange.proofs.port_command_in as fn
-use Rattle.exchange.proofs.port_command_in.Statement as stated
-use Rattle.exchange.proofs.port_command_in.Code as code
+use Rattle.commanding.proofs.port_command as port
+use Rattle.commanding.proofs.port_command.Symbol as port-def
+use Rattle.commanding.proofs.port_command.Symbol.{name as #commanding·port-command}
+use Rattle.commanding.proofs.port_command.Met as port-thm
+use Rattle.commanding.proofs.port_command_in.Key.{name as #commanding·port-command-in}
+use Rattle.commanding.proofs.port_command_in as fn
+use Rattle.commanding.proofs.port_command_in.Statement as stated
+use Rattle.commanding.proofs.port_command_in.Code as code
 
 abbrev ps : List (Param 0)
 ps = of-plain T.the-row call (λ x f. refl) ∷ of-plain G.the-row command (λ x f. refl) ∷ []
@@ -56,7 +56,7 @@ module _ {M : Type 1} (𝓤 : URA M) (H : Heap 𝓤) (A : Atoms 𝓤) (W : Given
   goes-port : (l ν : ℕ) (δ : GName) → ent 𝓤 (⋆ 𝓤 H A (‵ (flft (ν ∷ []) fullShare) ∷ ‵ (MutRef (named 0) (ν ∷ []) T.the-row .own (lent-port l δ) (vptr l 0 ∷ [])) ∷ [])) (Port 𝓤 H A mem′ run .pre (to-port l ν δ))
   goes-port l ν δ = lent 𝓤 H A W (MutRef (named 0) (ν ∷ []) T.the-row) (lent-port l δ) (vptr l 0 ∷ []) (ν ∷ []) fullShare (G.the-row ∷ []) (command .makes 𝓤 H A W, tt) (k, tt) (command .val k ∷ [], tt) (k-ok, tt)
 
-  module _ (C : Calls 𝓤 H) (Λ : Loops 𝓤 H) (fm : FmC 𝓤 H (W .laws) C) (known : Triple 𝓤 (C #exchange·port-command) (Port 𝓤 H A mem′ run)) where
+  module _ (C : Calls 𝓤 H) (Λ : Loops 𝓤 H) (fm : FmC 𝓤 H (W .laws) C) (known : Triple 𝓤 (C #commanding·port-command) (Port 𝓤 H A mem′ run)) where
     walk : ent 𝓤 (onEntry 𝓤 H A fn.signature tt tt (y .0 .3) (y .0 .4)) (WpFn 𝓤 H C Λ code.function (call .val c ∷ command .val k ∷ []) Post)
     walk =
         qed W (‵ ftrue ∷ ‵ (owns (T.the-row ∷ G.the-row ∷ []) (y .0 .3) (y .0 .4)) ∷ []) ∵ drop ! $ drop ! $ enter ! C Λ code.function (call .val c ∷ command .val k ∷ []) _ $
@@ -87,7 +87,7 @@ unfolding code.routine tablesOf
 port-command-in-spec 𝓤 H 𝓜 𝓖 𝓡 =
     let 𝓣 : Tables 𝓤 H = tablesOf 𝓤 H 𝓜 (tables 𝓤 H 𝓜 𝓡 code.env) in
     let W : Given 𝓤 H (𝓖 .A) = givenOf 𝓤 H 𝓜 𝓖 in
-    entered 𝓤 H (tripleOf 𝓤 H (𝓖 .A) fn.signature (fn.spec 𝓤 H (𝓖 .A) (𝓜 .mem) (𝓡 .run))) (tables 𝓤 H 𝓜 𝓡 code.env .C) (tables 𝓤 H 𝓜 𝓡 code.env .Λ) #exchange·port-command-in code.function (code.unfolded 𝓤 H 𝓜 𝓡)
+    entered 𝓤 H (tripleOf 𝓤 H (𝓖 .A) fn.signature (fn.spec 𝓤 H (𝓖 .A) (𝓜 .mem) (𝓡 .run))) (tables 𝓤 H 𝓜 𝓡 code.env .C) (tables 𝓤 H 𝓜 𝓡 code.env .Λ) #commanding·port-command-in code.function (code.unfolded 𝓤 H 𝓜 𝓡)
     (proves 𝓤 H (𝓖 .A) W ps [] (fn.signature .result) (fn.clauses 𝓤 H (𝓖 .A) (𝓜 .mem) (𝓡 .run)) code.function 𝓣 (λ κs qs bounds a g are. via 𝓤 _ (fst∗ 𝓤 _ (emp 𝓤))
     (walk 𝓤 H (𝓖 .A) W (𝓜 .mem) (𝓡 .run) (a .0) (a .1 .0) (are .0) (are .1 .0) (𝓣 .C) (𝓣 .Λ) (fmOf 𝓤 H (W .laws) 𝓣)
-    (cited 𝓤 H (Port 𝓤 H (𝓖 .A) (𝓜 .mem) (𝓡 .run)) 𝓜 𝓡 code.env #exchange·port-command port-def.routine code.calls-exchange·port-command (port-thm.met 𝓤 H 𝓜 𝓖 𝓡)))))
+    (cited 𝓤 H (Port 𝓤 H (𝓖 .A) (𝓜 .mem) (𝓡 .run)) 𝓜 𝓡 code.env #commanding·port-command port-def.routine code.calls-commanding·port-command (port-thm.met 𝓤 H 𝓜 𝓖 𝓡)))))

@@ -1,9 +1,9 @@
--- `exchange::commanded` meets its contract. Assumes nothing.
+-- `commanding::commanded` meets its contract. Assumes nothing.
 use mathlib.Core.Path.{_∙_, sym}
 use borrow.Author.Tests.{lt-ltb, le-ltb}
 use borrow.Author.Needs.{needs}
-use Rattle.exchange.proofs.commanded.Statement.{statement}
-use Rattle.exchange.proofs.commanded.Tie as tie
+use Rattle.commanding.proofs.commanded.Statement.{statement}
+use Rattle.commanding.proofs.commanded.Tie as tie
 
 returns : tie.Need-returns
 returns c = rw (lt-ltb _ _ (c .if1 .taken))

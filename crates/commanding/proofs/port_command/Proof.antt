@@ -1,4 +1,4 @@
--- `exchange::port_command` meets its contract: a walk of its MIR, by hand. The borrow is opened, the record is copied out, `Call::step` is called while the borrow is open, the new record is stored, and the borrow is closed at it.
+-- `commanding::port_command` meets its contract: a walk of its MIR, by hand. The borrow is opened, the record is copied out, `Call::step` is called while the borrow is open, the new record is stored, and the borrow is closed at it.
 -- Assumes nothing.
 use Rattle.walk.proofs.Walk.{refl, List, [], _∷_, ℕ, URA, named, Val, vptr, SProp, ent, emp, via, fst∗, id⊢, Lft, GName, Share, ftrue, flft, fobs, fbor, Memory, Routine, Heap, Calls, Loops, WpFn, Tables, Atoms, Fun, givenOf, tables, tablesOf, Given, ‵, _⊛_, ⋆, _$_, _∵_, !, qed, by, move, keep, drop, split, join, fsplit, fsplit3, fjoin, suffices, frame, done, whole, sub, look-in, look, look-raw, init, store-raw, stop, hop, fld, from, load, and-then, no-more, of-opd, assigns, land, returns, enter, alloc1, alloc0, params1, pass1, pass0, free0, Body, FmC, fmOf, owns, Is, mem, MutRef, owned, nothing, Triple, onEntry, tripleOf, entered, cited, says, walkOf, ends-at}
 use Rattle.walk.proofs.Lent.{Ok, typed, opens-ref, closes-ref, makes-ref, free-at, made, calls-exact, env, Param, of-plain, of-mut-ref, stays, proves}
@@ -14,10 +14,10 @@ use Rattle.call.proofs.Call.step as step
 use Rattle.call.proofs.Call.step.Symbol as step-def
 use Rattle.call.proofs.Call.step.Symbol.{name as #call·step}
 use Rattle.call.proofs.Call.step.Met as step-thm
-use Rattle.exchange.proofs.port_command.Key.{name as #exchange·port-command}
-use Rattle.exchange.proofs.port_command as fn
-use Rattle.exchange.proofs.port_command.Statement as stated
-use Rattle.exchange.proofs.port_command.Code as code
+use Rattle.commanding.proofs.port_command.Key.{name as #commanding·port-command}
+use Rattle.commanding.proofs.port_command as fn
+use Rattle.commanding.proofs.port_command.Statement as stated
+use Rattle.commanding.proofs.port_command.Code as code
 
 abbrev ps : List (Param 1)
 ps = of-mut-ref T.the-row ∷ of-plain G.the-row command (λ x f. refl) ∷ []
@@ -66,7 +66,7 @@ unfolding code.routine tablesOf
 port-command-spec 𝓤 H 𝓜 𝓖 𝓡 =
     let 𝓣 : Tables 𝓤 H = tablesOf 𝓤 H 𝓜 (tables 𝓤 H 𝓜 𝓡 code.env) in
     let W : Given 𝓤 H (𝓖 .A) = givenOf 𝓤 H 𝓜 𝓖 in
-    entered 𝓤 H (tripleOf 𝓤 H (𝓖 .A) fn.signature (fn.spec 𝓤 H (𝓖 .A) (𝓜 .mem) (𝓡 .run))) (tables 𝓤 H 𝓜 𝓡 code.env .C) (tables 𝓤 H 𝓜 𝓡 code.env .Λ) #exchange·port-command code.function (code.unfolded 𝓤 H 𝓜 𝓡)
+    entered 𝓤 H (tripleOf 𝓤 H (𝓖 .A) fn.signature (fn.spec 𝓤 H (𝓖 .A) (𝓜 .mem) (𝓡 .run))) (tables 𝓤 H 𝓜 𝓡 code.env .C) (tables 𝓤 H 𝓜 𝓡 code.env .Λ) #commanding·port-command code.function (code.unfolded 𝓤 H 𝓜 𝓡)
     (proves 𝓤 H (𝓖 .A) W ps [] (fn.signature .result) (fn.clauses 𝓤 H (𝓖 .A) (𝓜 .mem) (𝓡 .run)) code.function 𝓣 (λ κs qs bounds a g are. via 𝓤 _ (fst∗ 𝓤 _ (emp 𝓤))
     (walk 𝓤 H (𝓖 .A) W (𝓜 .mem) (𝓡 .run) (κs .0) (qs .0) (a .0 .ptr .0) (a .0 .ptr .1) (a .0 .name) (a .0 .now) (a .1 .0) (are .1 .0) (𝓣 .C) (𝓣 .Λ) (fmOf 𝓤 H (W .laws) 𝓣)
     (cited 𝓤 H (tripleOf 𝓤 H (𝓖 .A) step.signature (step.spec 𝓤 H (𝓖 .A) (𝓜 .mem) (𝓡 .run))) 𝓜 𝓡 code.env #call·step step-def.routine code.calls-call·Call·step (step-thm.met 𝓤 H 𝓜 𝓖 𝓡)))))

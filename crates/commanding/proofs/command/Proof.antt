@@ -1,4 +1,4 @@
--- `exchange::command` meets its contract: a walk of its MIR, by hand, with three calls and no branch. The row is lent as a `&[Call]` for a lifetime that is made for the call of `copy_out`, and taken back; `commanded` takes values; and the row goes to `store` for good, at its own lifetime.
+-- `commanding::command` meets its contract: a walk of its MIR, by hand, with three calls and no branch. The row is lent as a `&[Call]` for a lifetime that is made for the call of `copy_out`, and taken back; `commanded` takes values; and the row goes to `store` for good, at its own lifetime.
 -- Assumes nothing.
 use Rattle.walk.proofs.Walk.{_≡_, refl, _∙_, ap, List, [], _∷_, ℕ, _<_, _^_, length, set, URA, fullShare, named, w16, w64, Val, vint, SProp, ent, emp, via, fst∗, id⊢, Lft, GName, Share, ftrue, fat, flft, Memory, Routine, Heap, Calls, Loops, WpFn, Tables, Atoms, Fun, givenOf, tables, tablesOf, Given, ‵, _⊛_, ⋆, _$_, _∵_, !, qed, by, move, keep, drop, use1, split, join, rewrite, fsplit, fjoin, feqL, suffices, frame, done, whole, sub, look-in, agg, look, init, store, stop, hop, fld, from, load, addr, and-then, no-more, of-opd, assigns, land, returns, enter, alloc1, alloc0, params1, pass1, pass0, free0, FmC, fmOf, owns, Is, mem, uint-makes, u16, usize, RefT, sliceVal, MutSlice, ShrSlice, Room, finally, owned, nothing, Contract, Triple, onEntry, tripleOf, entered, cited, says, walkOf, ends-at}
 use Rattle.walk.proofs.Lent.{of-uint, Ok, typed, told, makes-mut, free-at, made, calls-exact, calls-with, lent, lends-shared, takes-back, env, Param, of-plain, of-gave, stays, proves}
@@ -7,30 +7,31 @@ use Rattle.call.specs.declared.Call.{Call}
 use Rattle.call.specs.declared.Command.{Command}
 use Rattle.call.specs.declared.Step.{Step}
 use Rattle.call.specs.Row.{command as by-command, turn}
-use Rattle.exchange.specs.Lent.{answering, takenAt, commanded as commandedOf}
-use Rattle.exchange.proofs.Turns.{commanded-is}
+use Rattle.exchange.specs.Lent.{answering, takenAt}
+use Rattle.commanding.specs.Lent.{commanded as commandedOf}
+use Rattle.commanding.proofs.Turns.{commanded-is}
 use Rattle.exchange.proofs.Plain.{call, command, answer, taken, stepped, answer-ok, call-ok}
 use Rattle.call.proofs.Call as T
 use Rattle.call.proofs.Command as G
 use Rattle.call.proofs.Answer as R
 use Rattle.exchange.proofs.Taken as K
 use Rattle.exchange.proofs.Taken.Laws as K′
 use Rattle.exchange.proofs.copy_out as copy-out
 use Rattle.exchange.proofs.copy_out.Symbol as copy-out-def
 use Rattle.exchange.proofs.copy_out.Symbol.{name as #exchange·copy-out}
 use Rattle.exchange.proofs.copy_out.Met as copy-out-thm
-use Rattle.exchange.proofs.commanded as commanded
-use Rattle.exchange.proofs.commanded.Symbol as commanded-def
-use Rattle.exchange.proofs.commanded.Symbol.{name as #exchange·commanded}
-use Rattle.exchange.proofs.commanded.Met as commanded-thm
+use Rattle.commanding.proofs.commanded as commanded
+use Rattle.commanding.proofs.commanded.Symbol as commanded-def
+use Rattle.commanding.proofs.commanded.Symbol.{name as #commanding·commanded}
+use Rattle.commanding.proofs.commanded.Met as commanded-thm
 use Rattle.exchange.proofs.store as storing
 use Rattle.exchange.proofs.store.Symbol as storing-def
 use Rattle.exchange.proofs.store.Symbol.{name as #exchange·store}
 use Rattle.exchange.proofs.store.Met as storing-thm
-use Rattle.exchange.proofs.command.Key.{name as #exchange·command}
-use Rattle.exchange.proofs.command as fn
-use Rattle.exchange.proofs.command.Statement as stated
-use Rattle.exchange.proofs.command.Code as code
+use Rattle.commanding.proofs.command.Key.{name as #commanding·command}
+use Rattle.commanding.proofs.command as fn
+use Rattle.commanding.proofs.command.Statement as stated
+use Rattle.commanding.proofs.command.Code as code
 
 abbrev ps : List (Param 1)
 ps = of-gave T.the-row ∷ of-plain usize (of-uint w64) (λ x f. refl) ∷ of-plain u16 (of-uint w16) (λ x f. refl) ∷ of-plain G.the-row command (λ x f. refl) ∷ []
@@ -93,7 +94,7 @@ module _ {M : Type 1} (𝓤 : URA M) (H : Heap 𝓤) (A : Atoms 𝓤) (W : Given
   goes-store : Ok call (d .call) → ent 𝓤 (⋆ 𝓤 H A (‵ (flft κ q) ∷ ‵ (MutSlice (named 0) κ T.the-row .own (row γ) (s ∷ [])) ∷ [])) (Store 𝓤 H A mem run .pre to-store)
   goes-store is = lent 𝓤 H A W (MutSlice (named 0) κ T.the-row) (row γ) (s ∷ []) κ q (usize ∷ T.the-row ∷ []) (uint-makes 𝓤 H A W w64, (call .makes 𝓤 H A W, tt)) (i, (d .call, tt)) (vint w64 i ∷ [], (call .val (d .call) ∷ [], tt)) ((refl, i-fits), (is, tt))
 
-  module _ (C : Calls 𝓤 H) (Λ : Loops 𝓤 H) (fm : FmC 𝓤 H (W .laws) C) (known-take : Triple 𝓤 (C #exchange·copy-out) (Take 𝓤 H A mem run)) (known-decide : Triple 𝓤 (C #exchange·commanded) (Decide 𝓤 H A mem run)) (known-store : Triple 𝓤 (C #exchange·store) (Store 𝓤 H A mem run)) where
+  module _ (C : Calls 𝓤 H) (Λ : Loops 𝓤 H) (fm : FmC 𝓤 H (W .laws) C) (known-take : Triple 𝓤 (C #exchange·copy-out) (Take 𝓤 H A mem run)) (known-decide : Triple 𝓤 (C #commanding·commanded) (Decide 𝓤 H A mem run)) (known-store : Triple 𝓤 (C #exchange·store) (Store 𝓤 H A mem run)) where
     walk : ent 𝓤 (onEntry 𝓤 H A fn.signature (κ, tt) (q, tt) x at) (WpFn 𝓤 H C Λ code.function (s ∷ vint w64 i ∷ vint w16 uses ∷ command .val k ∷ []) Post)
     walk =
         qed W ((‵ (flft κ q) ⊛ ‵ ftrue) ∷ ‵ (owns (MutSlice (named 0) κ T.the-row ∷ usize ∷ u16 ∷ G.the-row ∷ []) x at) ∷ []) ∵ split ! $ move ! (2 ∷ []) $ fsplit ! $ fsplit ! $ drop ! $ fsplit ! $ keep ! (0 ∷ 1 ∷ 3 ∷ []) $
@@ -135,9 +136,9 @@ unfolding code.routine tablesOf
 command-spec 𝓤 H 𝓜 𝓖 𝓡 =
     let 𝓣 : Tables 𝓤 H = tablesOf 𝓤 H 𝓜 (tables 𝓤 H 𝓜 𝓡 code.env) in
     let W : Given 𝓤 H (𝓖 .A) = givenOf 𝓤 H 𝓜 𝓖 in
-    entered 𝓤 H (tripleOf 𝓤 H (𝓖 .A) fn.signature (fn.spec 𝓤 H (𝓖 .A) (𝓜 .mem) (𝓡 .run))) (tables 𝓤 H 𝓜 𝓡 code.env .C) (tables 𝓤 H 𝓜 𝓡 code.env .Λ) #exchange·command code.function (code.unfolded 𝓤 H 𝓜 𝓡)
+    entered 𝓤 H (tripleOf 𝓤 H (𝓖 .A) fn.signature (fn.spec 𝓤 H (𝓖 .A) (𝓜 .mem) (𝓡 .run))) (tables 𝓤 H 𝓜 𝓡 code.env .C) (tables 𝓤 H 𝓜 𝓡 code.env .Λ) #commanding·command code.function (code.unfolded 𝓤 H 𝓜 𝓡)
     (proves 𝓤 H (𝓖 .A) W ps [] (fn.signature .result) (fn.clauses 𝓤 H (𝓖 .A) (𝓜 .mem) (𝓡 .run)) code.function 𝓣 (λ κs qs bounds a g are. via 𝓤 _ (fst∗ 𝓤 _ (emp 𝓤))
     (walk 𝓤 H (𝓖 .A) W (𝓜 .mem) (𝓡 .run) (κs .0) (qs .0) (a .0 .ptr .0) (a .0 .ptr .1) (a .0 .name) (a .0 .now) (a .1 .0) (a .1 .1 .0) (a .1 .1 .1 .0) (are .0 .0 .1) (are .1 .0 .1) (are .1 .1 .0 .1) (are .1 .1 .1 .0) (𝓣 .C) (𝓣 .Λ) (fmOf 𝓤 H (W .laws) 𝓣)
     (cited 𝓤 H (Take 𝓤 H (𝓖 .A) (𝓜 .mem) (𝓡 .run)) 𝓜 𝓡 code.env #exchange·copy-out copy-out-def.routine code.calls-exchange·copy-out (copy-out-thm.met 𝓤 H 𝓜 𝓖 𝓡))
-    (cited 𝓤 H (Decide 𝓤 H (𝓖 .A) (𝓜 .mem) (𝓡 .run)) 𝓜 𝓡 code.env #exchange·commanded commanded-def.routine code.calls-exchange·commanded (commanded-thm.met 𝓤 H 𝓜 𝓖 𝓡))
+    (cited 𝓤 H (Decide 𝓤 H (𝓖 .A) (𝓜 .mem) (𝓡 .run)) 𝓜 𝓡 code.env #commanding·commanded commanded-def.routine code.calls-commanding·commanded (commanded-thm.met 𝓤 H 𝓜 𝓖 𝓡))
     (cited 𝓤 H (Store 𝓤 H (𝓖 .A) (𝓜 .mem) (𝓡 .run)) 𝓜 𝓡 code.env #exchange·store storing-def.routine code.calls-exchange·store (storing-thm.met 𝓤 H 𝓜 𝓖 𝓡)))))

@@ -1,9 +1,9 @@
--- `exchange::answers_to` meets its contract. Assumes nothing.
+-- `commanding::answers_to` meets its contract. Assumes nothing.
 use mathlib.Core.Path.{_∙_, sym}
 use borrow.Author.Tests.{not-true, not-false}
 use borrow.Author.Needs.{needs}
-use Rattle.exchange.proofs.answers_to.Statement.{statement}
-use Rattle.exchange.proofs.answers_to.Tie as tie
+use Rattle.commanding.proofs.answers_to.Statement.{statement}
+use Rattle.commanding.proofs.answers_to.Tie as tie
 
 returns : tie.Need-returns
 returns c = rw (not-true (c .before .before .before .args .t .inside) (c .if1 .taken))

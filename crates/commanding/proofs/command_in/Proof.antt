@@ -1,4 +1,4 @@
--- `exchange::command_in` meets its contract: a walk of its MIR, by hand. The first records of the local array are lent to `command` for a lifetime made for the call, and taken back.
+-- `commanding::command_in` meets its contract: a walk of its MIR, by hand. The first records of the local array are lent to `command` for a lifetime made for the call, and taken back.
 -- Assumes nothing.
 use Rattle.walk.proofs.Walk.{_≡_, refl, sym, _∙_, ap, List, [], _∷_, ℕ, _<_, _^_, arith, length, set, URA, fullShare, named, w16, w64, Val, vint, SProp, ent, emp, via, fst∗, id⊢, GName, ftrue, fat, flft, Memory, Routine, Heap, Calls, Loops, WpFn, Tables, Atoms, Fun, givenOf, tables, tablesOf, Given, ‵, _⊛_, ⋆, _$_, _∵_, !, qed, by, move, drop, use1, split, join, rewrite, fsplit, fjoin, suffices, done, agg, look, init, stop, from, load, addr, and-then, no-more, of-opd, assigns, land, returns, enter, alloc1, alloc0, params1, pass1, pass0, free0, FmC, fmOf, owns, Is, mem, uint-makes, u16, usize, RefT, sliceVal, MutSlice, Room, owned, nothing, Contract, Triple, onEntry, tripleOf, entered, cited, says, walkOf, ends-at}
 use Rattle.walk.proofs.Lent.{of-uint, Ok, typed, told, free-at, made, calls-exact, calls-with, lent, env, Param, of-plain, stays, proves, lends-front, takes-front}
@@ -13,29 +13,31 @@ use Rattle.call.specs.declared.Command.{Command}
 use Rattle.call.specs.declared.Answer.{Answer}
 use Rattle.call.specs.declared.Step.{Step}
 use Rattle.call.specs.Row.{command as by-command, turn}
-use Rattle.exchange.specs.declared.Answered.{Answered}
-use Rattle.exchange.specs.Lent.{answering as with-row, within as withinOf, rowIn, stepIn, commandedIn}
-use Rattle.exchange.proofs.Turns.{turn-answer, turn-row, few}
-use Rattle.exchange.proofs.Plain.{call, command, answer, calls, answered, answering, answering-ok, by-fields}
+use Rattle.commanding.specs.declared.Answered.{Answered}
+use Rattle.exchange.specs.Lent.{answering as with-row, within as withinOf, rowIn}
+use Rattle.commanding.specs.Lent.{stepIn, commandedIn}
+use Rattle.commanding.proofs.Turns.{turn-answer, turn-row, few}
+use Rattle.exchange.proofs.Plain.{call, command, answer, calls, by-fields}
+use Rattle.commanding.proofs.Plain.{answered, answering, answering-ok}
 use Rattle.call.proofs.Call as T
 use Rattle.call.proofs.Call.Laws as T′
 use Rattle.call.proofs.Command as G
 use Rattle.call.proofs.Answer as R
 use Rattle.call.proofs.Answer.Laws as R′
-use Rattle.exchange.proofs.Answered as D
-use Rattle.exchange.proofs.Answered.Laws as D′
-use Rattle.exchange.proofs.within as within
-use Rattle.exchange.proofs.within.Symbol as within-def
-use Rattle.exchange.proofs.within.Symbol.{name as #exchange·within}
-use Rattle.exchange.proofs.within.Met as within-thm
-use Rattle.exchange.proofs.command as commanding
-use Rattle.exchange.proofs.command.Symbol as commanding-def
-use Rattle.exchange.proofs.command.Symbol.{name as #exchange·command}
-use Rattle.exchange.proofs.command.Met as commanding-thm
-use Rattle.exchange.proofs.command_in.Key.{name as #exchange·command-in}
-use Rattle.exchange.proofs.command_in as fn
-use Rattle.exchange.proofs.command_in.Statement as stated
-use Rattle.exchange.proofs.command_in.Code as code
+use Rattle.commanding.proofs.Answered as D
+use Rattle.commanding.proofs.Answered.Laws as D′
+use Rattle.commanding.proofs.within as within
+use Rattle.commanding.proofs.within.Symbol as within-def
+use Rattle.commanding.proofs.within.Symbol.{name as #commanding·within}
+use Rattle.commanding.proofs.within.Met as within-thm
+use Rattle.commanding.proofs.command as commanding
+use Rattle.commanding.proofs.command.Symbol as commanding-def
+use Rattle.commanding.proofs.command.Symbol.{name as #commanding·command}
+use Rattle.commanding.proofs.command.Met as commanding-thm
+use Rattle.commanding.proofs.command_in.Key.{name as #commanding·command-in}
+use Rattle.commanding.proofs.command_in as fn
+use Rattle.commanding.proofs.command_in.Statement as stated
+use Rattle.commanding.proofs.command_in.Code as code
 
 abbrev ps : List (Param 0)
 ps = of-plain (Array T.the-row 1025) calls (λ x f. refl) ∷ of-plain usize (of-uint w64) (λ x f. refl) ∷ of-plain usize (of-uint w64) (λ x f. refl) ∷ of-plain u16 (of-uint w16) (λ x f. refl) ∷ of-plain G.the-row command (λ x f. refl) ∷ []
@@ -99,7 +101,7 @@ module _ {M : Type 1} (𝓤 : URA M) (H : Heap 𝓤) (A : Atoms 𝓤) (W : Given
   goes-command l ν δ = lent 𝓤 H A W (MutSlice (named 0) (ν ∷ []) T.the-row) (lent-row l δ) (sliceVal (l, 0) m ∷ []) (ν ∷ []) fullShare (usize ∷ u16 ∷ G.the-row ∷ []) (uint-makes 𝓤 H A W w64, (uint-makes 𝓤 H A W w16, (command .makes 𝓤 H A W, tt)))
       (i, (u, (k, tt))) (vint w64 i ∷ [], (vint w16 u ∷ [], (command .val k ∷ [], tt))) ((refl, i-fits), ((refl, u-fits), (k-ok, tt)))
 
-  module _ (C : Calls 𝓤 H) (Λ : Loops 𝓤 H) (fm : FmC 𝓤 H (W .laws) C) (known-within : Triple 𝓤 (C #exchange·within) (Within 𝓤 H A mem′ run)) (known-command : Triple 𝓤 (C #exchange·command) (Command? 𝓤 H A mem′ run)) where
+  module _ (C : Calls 𝓤 H) (Λ : Loops 𝓤 H) (fm : FmC 𝓤 H (W .laws) C) (known-within : Triple 𝓤 (C #commanding·within) (Within 𝓤 H A mem′ run)) (known-command : Triple 𝓤 (C #commanding·command) (Command? 𝓤 H A mem′ run)) where
     walk : ent 𝓤 (onEntry 𝓤 H A fn.signature tt tt (y .0 .3) (y .0 .4)) (WpFn 𝓤 H C Λ code.function (calls .val xs ∷ vint w64 n ∷ vint w64 i ∷ vint w16 u ∷ command .val k ∷ []) Post)
     walk =
         qed W (‵ ftrue ∷ ‵ (owns (Array T.the-row 1025 ∷ usize ∷ usize ∷ u16 ∷ G.the-row ∷ []) (y .0 .3) (y .0 .4)) ∷ []) ∵ drop ! $ drop ! $ enter ! C Λ code.function (calls .val xs ∷ vint w64 n ∷ vint w64 i ∷ vint w16 u ∷ command .val k ∷ []) _ $
@@ -134,8 +136,8 @@ unfolding code.routine tablesOf
 command-in-spec 𝓤 H 𝓜 𝓖 𝓡 =
     let 𝓣 : Tables 𝓤 H = tablesOf 𝓤 H 𝓜 (tables 𝓤 H 𝓜 𝓡 code.env) in
     let W : Given 𝓤 H (𝓖 .A) = givenOf 𝓤 H 𝓜 𝓖 in
-    entered 𝓤 H (tripleOf 𝓤 H (𝓖 .A) fn.signature (fn.spec 𝓤 H (𝓖 .A) (𝓜 .mem) (𝓡 .run))) (tables 𝓤 H 𝓜 𝓡 code.env .C) (tables 𝓤 H 𝓜 𝓡 code.env .Λ) #exchange·command-in code.function (code.unfolded 𝓤 H 𝓜 𝓡)
+    entered 𝓤 H (tripleOf 𝓤 H (𝓖 .A) fn.signature (fn.spec 𝓤 H (𝓖 .A) (𝓜 .mem) (𝓡 .run))) (tables 𝓤 H 𝓜 𝓡 code.env .C) (tables 𝓤 H 𝓜 𝓡 code.env .Λ) #commanding·command-in code.function (code.unfolded 𝓤 H 𝓜 𝓡)
     (proves 𝓤 H (𝓖 .A) W ps [] (fn.signature .result) (fn.clauses 𝓤 H (𝓖 .A) (𝓜 .mem) (𝓡 .run)) code.function 𝓣 (λ κs qs bounds a g are. via 𝓤 _ (fst∗ 𝓤 _ (emp 𝓤))
     (walk 𝓤 H (𝓖 .A) W (𝓜 .mem) (𝓡 .run) (a .0) (a .1 .0) (a .1 .1 .0) (a .1 .1 .1 .0) (a .1 .1 .1 .1 .0) (are .0) (are .1 .0 .1) (are .1 .1 .0 .1) (are .1 .1 .1 .0 .1) (are .1 .1 .1 .1 .0) (𝓣 .C) (𝓣 .Λ) (fmOf 𝓤 H (W .laws) 𝓣)
-    (cited 𝓤 H (Within 𝓤 H (𝓖 .A) (𝓜 .mem) (𝓡 .run)) 𝓜 𝓡 code.env #exchange·within within-def.routine code.calls-exchange·within (within-thm.met 𝓤 H 𝓜 𝓖 𝓡))
-    (cited 𝓤 H (Command? 𝓤 H (𝓖 .A) (𝓜 .mem) (𝓡 .run)) 𝓜 𝓡 code.env #exchange·command commanding-def.routine code.calls-exchange·command (commanding-thm.met 𝓤 H 𝓜 𝓖 𝓡)))))
+    (cited 𝓤 H (Within 𝓤 H (𝓖 .A) (𝓜 .mem) (𝓡 .run)) 𝓜 𝓡 code.env #commanding·within within-def.routine code.calls-commanding·within (within-thm.met 𝓤 H 𝓜 𝓖 𝓡))
+    (cited 𝓤 H (Command? 𝓤 H (𝓖 .A) (𝓜 .mem) (𝓡 .run)) 𝓜 𝓡 code.env #commanding·command commanding-def.routine code.calls-commanding·command (commanding-thm.met 𝓤 H 𝓜 𝓖 𝓡)))))

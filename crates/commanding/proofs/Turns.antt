@@ -18,7 +18,8 @@ use Rattle.call.specs.declared.Answer.the-variants.{Accepted, Refused}
 use Rattle.call.specs.declared.Step.{Step}
 use Rattle.call.specs.Protocol.{step, cleared, refusing}
 use Rattle.call.specs.Row.{Turn, Reply, placed-at, says, command, recordAt, named, refuses, put, turn}
-use Rattle.exchange.specs.Lent.{answering, takenAt, commanded, within as withinOf}
+use Rattle.exchange.specs.Lent.{answering, takenAt, within as withinOf}
+use Rattle.commanding.specs.Lent.{commanded}
 
 -- the answer of a step for the record r, and the row with the record after it
 abbrev pub stepping : List Call → ℕ → Step → Turn

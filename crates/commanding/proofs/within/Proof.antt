@@ -1,7 +1,7 @@
--- `exchange::within` meets its contract. Assumes nothing.
+-- `commanding::within` meets its contract. Assumes nothing.
 use borrow.Author.Tests.{lt-ltb, le-ltb}
-use Rattle.exchange.proofs.within.Statement.{statement}
-use Rattle.exchange.proofs.within.Tie as tie
+use Rattle.commanding.proofs.within.Statement.{statement}
+use Rattle.commanding.proofs.within.Tie as tie
 
 returns : tie.Need-returns
 returns c = rw (lt-ltb _ _ (c .if1 .taken))

@@ -1,0 +1,4 @@
+pub mod Plain
+pub mod Turns
+pub mod Numbered
+pub mod Exact
