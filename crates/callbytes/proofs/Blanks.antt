@@ -5,37 +5,15 @@ use Prim.Native.Nat.{ℕ, zero, suc, _+_, _*_, _≤_, _<_}
 use native.Mathlib.Omega.{arith}
 use lib.ListN.{length, getD, set, replicate, getD-replicate}
 use lib.Seq.{sets, set-getD, getD-set-other}
-use Rattle.ends.specs.declared.Status.{Status}
-use Rattle.ends.specs.declared.Status.the-variants.{Unknown, Avail, Unavail, None, Dtmf, Special}
-use Rattle.ends.specs.declared.Signal.{Signal}
-use Rattle.ends.specs.declared.Signal.the-variants.{Upack, Ordinary, Teardown, Downack}
 use Rattle.call.specs.declared.Slot.{Slot}
 use Rattle.callbytes.specs.Parts.{Blank}
 use Rattle.call.specs.Protocol.{slot, blank}
-use Rattle.callbytes.specs.Codec.{statusNumber, signalNumber, signalTunnel, signalCode, slotBytes, slotsBytes, slotAt}
+use Rattle.signalbytes.specs.Numbers.{signalNumber}
+use Rattle.signalbytes.proofs.Back.{no-tunnel, no-code}
+use Rattle.callbytes.specs.Codec.{slotBytes, slotsBytes, slotAt}
 use Rattle.callbytes.proofs.Slots.{put-three, bytes-length}
 
 -- ---- a place that holds nothing
-
-status-numbered : (s : Status) → 3 ≤ statusNumber s
-status-numbered Unknown = omega arith
-status-numbered Avail = omega arith
-status-numbered Unavail = omega arith
-status-numbered None = omega arith
-status-numbered (Dtmf n) = omega arith
-status-numbered (Special n) = omega arith
-
-no-tunnel : (x : Signal) → signalNumber x ≡ 0 → signalTunnel x ≡ 0
-no-tunnel Upack e = refl
-no-tunnel Teardown e = refl
-no-tunnel Downack e = refl
-no-tunnel (Ordinary t s) e = absurd (omega (arith, e, status-numbered s))
-
-no-code : (x : Signal) → signalNumber x ≡ 0 → signalCode x ≡ 0
-no-code Upack e = refl
-no-code Teardown e = refl
-no-code Downack e = refl
-no-code (Ordinary t s) e = absurd (omega (arith, e, status-numbered s))
 
 put-nothing : (l : List ℕ) (j : ℕ) → getD l j 0 ≡ 0 → set l j 0 ≡ l
 put-nothing l j e = ap (set l j) (sym e) ∙ set-getD l j 0

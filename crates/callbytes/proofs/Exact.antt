@@ -7,13 +7,7 @@ use contract.Lifetimes.{Lfts}
 use denote.Ref.{RefT}
 use denote.Triple.Clauses.{AtExit}
 use borrow.Fn.Kinds.{endedOf}
-use Rattle.ends.specs.declared.Signal.{Signal}
-use Rattle.ends.specs.declared.Status.{Status}
 use Rattle.call.specs.declared.Call.{Call}
-use Rattle.callbytes.proofs.signal_number.Reads as signal-number
-use Rattle.callbytes.proofs.signal_tunnel.Reads as signal-tunnel
-use Rattle.callbytes.proofs.signal_code.Reads as signal-code
-use Rattle.callbytes.proofs.status_said.Reads as status-said
 use Rattle.callbytes.proofs.call_bytes.Reads as call-bytes
 use Rattle.callbytes.proofs.call_at.Reads as call-at
 use Rattle.callbytes.proofs.call_at.Kinds as call-at-kinds
@@ -21,18 +15,6 @@ use Rattle.callbytes.proofs.free_at.Reads as free-at
 use Rattle.callbytes.proofs.free_at.Kinds as free-at-kinds
 use Rattle.callbytes.proofs.put_at.Reads as put-at
 use Rattle.callbytes.proofs.put_at.Kinds as put-at-kinds
-
-pub signal-number-exact : (x : Signal) (r s : ℕ) → signal-number.Post tt (x, tt) r (x, tt) → signal-number.Post tt (x, tt) s (x, tt) → r ≡ s
-signal-number-exact x r s p q = p ∙ sym q
-
-pub signal-tunnel-exact : (x : Signal) (r s : ℕ) → signal-tunnel.Post tt (x, tt) r (x, tt) → signal-tunnel.Post tt (x, tt) s (x, tt) → r ≡ s
-signal-tunnel-exact x r s p q = p ∙ sym q
-
-pub signal-code-exact : (x : Signal) (r s : ℕ) → signal-code.Post tt (x, tt) r (x, tt) → signal-code.Post tt (x, tt) s (x, tt) → r ≡ s
-signal-code-exact x r s p q = p ∙ sym q
-
-pub status-said-exact : (n code : ℕ) (r s : Status) → status-said.Post tt (n, (code, tt)) r (n, (code, tt)) → status-said.Post tt (n, (code, tt)) s (n, (code, tt)) → r ≡ s
-status-said-exact n code r s p q = p ∙ sym q
 
 pub call-bytes-exact : (c : Call) (r s : List ℕ) → call-bytes.Post tt (c, tt) r (c, tt) → call-bytes.Post tt (c, tt) s (c, tt) → r ≡ s
 call-bytes-exact c r s p q = p ∙ sym q

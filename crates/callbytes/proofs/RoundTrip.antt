@@ -5,38 +5,16 @@ use Prim.Native.Nat.{ℕ, zero, suc, _+_, _*_, _≤_, _<_}
 use native.Mathlib.Omega.{arith}
 use lib.ListN.{length, getD, take, drop, length-append}
 use lib.Seq.{getD-take, getD-append-add, getD-append-seam, getD-at, length-take-le}
-use Rattle.ends.specs.declared.State.{State}
-use Rattle.ends.specs.declared.State.the-variants.{Idle, Requesting, Waiting, Linked, Unlinking}
-use Rattle.ends.specs.declared.Status.{Status}
-use Rattle.ends.specs.declared.Status.the-variants.{Unknown, Avail, Unavail, None, Dtmf, Special}
-use Rattle.ends.specs.declared.Signal.{Signal}
-use Rattle.ends.specs.declared.Signal.the-variants.{Upack, Ordinary, Teardown, Downack}
 use Rattle.call.specs.declared.Slot.{Slot}
 use Rattle.call.specs.declared.Call.{Call}
 use Rattle.planbytes.specs.Numbers.{high, number, numberAfter}
 use Rattle.planbytes.proofs.Numbers.{two-at}
-use Rattle.callbytes.specs.Codec.{stateNumber, stateSaid, statusSaid, statusNumber, statusCode, signalNumber, signalTunnel, signalCode, signalSaid, slotBytes, slotsBytes, callBytes, slotAt, slotsFrom, callIn, Fits}
+use Rattle.signalbytes.specs.Numbers.{stateNumber, stateSaid, signalNumber, signalTunnel, signalCode}
+use Rattle.signalbytes.proofs.Back.{state-back, signal-back}
+use Rattle.callbytes.specs.Codec.{slotBytes, slotsBytes, callBytes, slotAt, slotsFrom, callIn, Fits}
 use Rattle.callbytes.proofs.Slots.{bytes-length}
 
--- ---- the numbers of the cases
-
-state-back : (s : State) → stateSaid (stateNumber s) ≡ s
-state-back Idle = refl
-state-back Requesting = refl
-state-back Waiting = refl
-state-back Linked = refl
-state-back Unlinking = refl
-
-signal-back : (x : Signal) → signalSaid (signalNumber x) (signalTunnel x) (signalCode x) ≡ x
-signal-back Upack = refl
-signal-back Teardown = refl
-signal-back Downack = refl
-signal-back (Ordinary t Unknown) = refl
-signal-back (Ordinary t Avail) = refl
-signal-back (Ordinary t Unavail) = refl
-signal-back (Ordinary t None) = refl
-signal-back (Ordinary t (Dtmf n)) = refl
-signal-back (Ordinary t (Special n)) = refl
+-- ---- the use number
 
 use-back : (n : ℕ) → n < 65536 → number (high 2 n) ≡ n
 unfolding number numberAfter high

@@ -14,7 +14,8 @@ use Rattle.call.specs.declared.Slot.{Slot}
 use Rattle.ends.specs.declared.State.the-variants.{Idle, Requesting, Waiting, Linked, Unlinking}
 use Rattle.planbytes.specs.Numbers as Numbers
 use Rattle.call.specs.Protocol.{slot, blank, cleared, isIdle, isFree}
-use Rattle.callbytes.specs.Codec.{slotBytes, slotsBytes, stateSaid, slotAt, slotsFrom, callIn, callAt, putAt}
+use Rattle.signalbytes.specs.Numbers.{stateSaid}
+use Rattle.callbytes.specs.Codec.{slotBytes, slotsBytes, slotAt, slotsFrom, callIn, callAt, putAt}
 use Rattle.planwrite.proofs.Puts.{sets-append, puts-then}
 use Rattle.zone.proofs.Held.{stores-pad}
 

@@ -4,75 +4,14 @@ use Prim.Native.Nat.{ℕ, zero, suc, _+_, _-_, _<_}
 use mathlib.Core.Path.{_≡_}
 use mathlib.Core.Bool.{cond}
 use mathlib.Core.List.{List, [], _∷_, _++_}
-use lib.Dec.{eqb, ltb}
+use lib.Dec.{ltb}
 use lib.ListN.{length, getD, take, drop}
 use lib.Seq.{sets}
 use Rattle.planbytes.specs.Numbers.{high, number}
-use Rattle.ends.specs.declared.State.{State}
-use Rattle.ends.specs.declared.State.the-variants.{Idle, Requesting, Waiting, Linked, Unlinking}
-use Rattle.ends.specs.declared.Status.{Status}
-use Rattle.ends.specs.declared.Status.the-variants.{Unknown, Avail, Unavail, None, Dtmf, Special}
-use Rattle.ends.specs.declared.Signal.{Signal}
-use Rattle.ends.specs.declared.Signal.the-variants.{Upack, Ordinary, Teardown, Downack}
+use Rattle.signalbytes.specs.Numbers.{stateNumber, signalNumber, signalTunnel, signalCode, stateSaid, signalSaid}
 use Rattle.call.specs.declared.Slot.{Slot}
 use Rattle.call.specs.declared.Call.{Call}
 use Rattle.call.specs.Protocol.{cleared}
-
--- ---- the numbers of the cases
-
-abbrev pub stateNumber : State → ℕ
-stateNumber Idle = 0
-stateNumber Requesting = 1
-stateNumber Waiting = 2
-stateNumber Linked = 3
-stateNumber Unlinking = 4
-
-abbrev pub statusNumber : Status → ℕ
-statusNumber Unknown = 3
-statusNumber Avail = 4
-statusNumber Unavail = 5
-statusNumber None = 6
-statusNumber (Dtmf n) = 7
-statusNumber (Special n) = 8
-
-abbrev pub statusCode : Status → ℕ
-statusCode Unknown = 0
-statusCode Avail = 0
-statusCode Unavail = 0
-statusCode None = 0
-statusCode (Dtmf n) = n
-statusCode (Special n) = n
-
--- upack 0, teardown 1, downack 2; an ordinary signal has its status' number, its tunnel, and the status' code
-abbrev pub signalNumber : Signal → ℕ
-signalNumber Upack = 0
-signalNumber Teardown = 1
-signalNumber Downack = 2
-signalNumber (Ordinary t s) = statusNumber s
-
-abbrev pub signalTunnel : Signal → ℕ
-signalTunnel Upack = 0
-signalTunnel Teardown = 0
-signalTunnel Downack = 0
-signalTunnel (Ordinary t s) = t
-
-abbrev pub signalCode : Signal → ℕ
-signalCode Upack = 0
-signalCode Teardown = 0
-signalCode Downack = 0
-signalCode (Ordinary t s) = statusCode s
-
--- ---- and back: any number
-
-abbrev pub stateSaid : ℕ → State
-stateSaid n = cond (eqb n 0) Idle (cond (eqb n 1) Requesting (cond (eqb n 2) Waiting (cond (eqb n 3) Linked Unlinking)))
-
-abbrev pub statusSaid : ℕ → ℕ → Status
-statusSaid n code =
-    cond (eqb n 3) Unknown (cond (eqb n 4) Avail (cond (eqb n 5) Unavail (cond (eqb n 6) None (cond (eqb n 7) (Dtmf code) (Special code)))))
-
-abbrev pub signalSaid : ℕ → ℕ → ℕ → Signal
-signalSaid n tunnel code = cond (eqb n 0) Upack (cond (eqb n 1) Teardown (cond (eqb n 2) Downack (Ordinary tunnel (statusSaid n code))))
 
 -- ---- a record's bytes
 

@@ -7,143 +7,12 @@ ghost use lib.Seq.{sets};
 ghost use Rattle.planbytes.specs.Numbers.{high, number};
 ghost use Rattle.call.specs.Protocol.{isFree, cleared};
 ghost use Rattle.callbytes.specs.Parts.{Blank};
-ghost use Rattle.callbytes.specs.Codec.{stateNumber, statusNumber, statusCode, signalNumber, signalTunnel, signalCode, stateSaid, statusSaid, signalSaid, slotBytes, slotsBytes, callBytes, slotAt, slotsFrom, callIn, callAt, putAt, Fits};
+ghost use Rattle.callbytes.specs.Codec.{slotBytes, slotsBytes, callBytes, slotAt, slotsFrom, callIn, callAt, putAt, Fits};
 use call::Call;
 use call::Queue;
 use call::Slot;
 use ends::End;
 use ends::Signal;
-use ends::State;
-use ends::Status;
-
-// ---- the numbers of the cases
-
-fn state_number(s: State) -> u8
-    ensures { λ r. ⌜ r ≡ stateNumber s ⌝ }
-{
-    match s {
-        State::Idle => 0,
-        State::Requesting => 1,
-        State::Waiting => 2,
-        State::Linked => 3,
-        State::Unlinking => 4,
-    }
-}
-
-fn status_number(s: Status) -> u8
-    ensures { λ r. ⌜ r ≡ statusNumber s ⌝ }
-{
-    match s {
-        Status::Unknown => 3,
-        Status::Avail => 4,
-        Status::Unavail => 5,
-        Status::None => 6,
-        Status::Dtmf(_) => 7,
-        Status::Special(_) => 8,
-    }
-}
-
-fn status_code(s: Status) -> u8
-    ensures { λ r. ⌜ r ≡ statusCode s ⌝ }
-{
-    match s {
-        Status::Unknown => 0,
-        Status::Avail => 0,
-        Status::Unavail => 0,
-        Status::None => 0,
-        Status::Dtmf(n) => n,
-        Status::Special(n) => n,
-    }
-}
-
-pub fn signal_number(x: Signal) -> u8
-    ensures { λ r. ⌜ r ≡ signalNumber x ⌝ }
-{
-    match x {
-        Signal::Upack => 0,
-        Signal::Teardown => 1,
-        Signal::Downack => 2,
-        Signal::Ordinary(_, s) => status_number(s),
-    }
-}
-
-pub fn signal_tunnel(x: Signal) -> u8
-    ensures { λ r. ⌜ r ≡ signalTunnel x ⌝ }
-{
-    match x {
-        Signal::Upack => 0,
-        Signal::Teardown => 0,
-        Signal::Downack => 0,
-        Signal::Ordinary(t, _) => t,
-    }
-}
-
-pub fn signal_code(x: Signal) -> u8
-    ensures { λ r. ⌜ r ≡ signalCode x ⌝ }
-{
-    match x {
-        Signal::Upack => 0,
-        Signal::Teardown => 0,
-        Signal::Downack => 0,
-        Signal::Ordinary(_, s) => status_code(s),
-    }
-}
-
-fn state_said(n: u8) -> State
-    ensures { λ r. ⌜ r ≡ stateSaid n ⌝ }
-{
-    if n == 0 {
-        return State::Idle;
-    }
-    if n == 1 {
-        return State::Requesting;
-    }
-    if n == 2 {
-        return State::Waiting;
-    }
-    if n == 3 {
-        State::Linked
-    } else {
-        State::Unlinking
-    }
-}
-
-pub fn status_said(n: u8, code: u8) -> Status
-    ensures { λ r. ⌜ r ≡ statusSaid n code ⌝ }
-{
-    if n == 3 {
-        return Status::Unknown;
-    }
-    if n == 4 {
-        return Status::Avail;
-    }
-    if n == 5 {
-        return Status::Unavail;
-    }
-    if n == 6 {
-        return Status::None;
-    }
-    if n == 7 {
-        Status::Dtmf(code)
-    } else {
-        Status::Special(code)
-    }
-}
-
-fn signal_said(n: u8, tunnel: u8, code: u8) -> Signal
-    ensures { λ r. ⌜ r ≡ signalSaid n tunnel code ⌝ }
-{
-    if n == 0 {
-        return Signal::Upack;
-    }
-    if n == 1 {
-        return Signal::Teardown;
-    }
-    if n == 2 {
-        return Signal::Downack;
-    }
-    Signal::Ordinary(tunnel, status_said(n, code))
-}
 
 // ---- a record's bytes
 
@@ -152,9 +21,9 @@ fn put_slot(room: &mut [u8; 102], at: usize, s: Slot)
     ensures { λ r. ⌜ now (room .exit) ≡ sets (now (room .entry)) at (slotBytes s) ⌝ }
 {
     let x = s.signal;
-    room[at] = signal_number(x);
-    room[at + 1] = signal_tunnel(x);
-    room[at + 2] = signal_code(x);
+    room[at] = signalbytes::signal_number(x);
+    room[at + 1] = signalbytes::signal_tunnel(x);
+    room[at + 2] = signalbytes::signal_code(x);
 }
 
 // The places of a queue, into a room that is blank there: most places hold nothing, and a place that holds nothing is 0, so only the others are written.
@@ -165,7 +34,7 @@ fn put_slots(room: &mut [u8; 102], at: usize, slots: [Slot; 16])
     for i in 0usize..16usize {
         let s = slots[i];
         let x = s.signal;
-        if signal_number(x) != 0 {
+        if signalbytes::signal_number(x) != 0 {
             put_slot(room, at + 3 * i, s);
         }
     }
@@ -200,8 +69,8 @@ pub fn call_bytes(c: Call) -> [u8; 102]
     let second = callee.state;
     let waiting = to_caller.slots;
     let coming = to_callee.slots;
-    let a = state_number(first);
-    let b = state_number(second);
+    let a = signalbytes::state_number(first);
+    let b = signalbytes::state_number(second);
     let mut room = [0u8; 102];
     put_head(&mut room, a, b, c.use_number, to_caller.count);
     put_slots(&mut room, 5, waiting);
@@ -231,7 +100,7 @@ fn slot_at(b: &[u8], at: usize) -> Slot
     ensures { λ r. ⌜ r ≡ slotAt (now (b .entry)) at ⌝ }
 {
     Slot {
-        signal: signal_said(b[at], b[at + 1], b[at + 2]),
+        signal: signalbytes::signal_said(b[at], b[at + 1], b[at + 2]),
     }
 }
 
@@ -258,10 +127,10 @@ fn read(b: &[u8]) -> Call
 {
     Call {
         caller: End {
-            state: state_said(b[0]),
+            state: signalbytes::state_said(b[0]),
         },
         callee: End {
-            state: state_said(b[1]),
+            state: signalbytes::state_said(b[1]),
         },
         to_caller: Queue {
             slots: slots_at(b, 5),

@@ -21,7 +21,8 @@ use Rattle.placing.specs.declared.Placed.{Placed as Placing}
 use Rattle.placing.specs.Rows.{outcomeIn, turned, placedIn}
 use Rattle.ends.specs.declared.Status.{Status}
 use Rattle.ends.specs.declared.Status.the-variants.{Dtmf}
-use Rattle.callbytes.specs.Codec.{statusSaid, signalNumber, signalTunnel, signalCode, callIn}
+use Rattle.signalbytes.specs.Numbers.{statusSaid, signalNumber, signalTunnel, signalCode}
+use Rattle.callbytes.specs.Codec.{callIn}
 use Rattle.rowbytes.specs.Rows.{rowIn, after, portAfter}
 use Rattle.dfc.specs.declared.Routed.{Routed}
 use Rattle.dfc.specs.declared.Commanded.{Commanded}

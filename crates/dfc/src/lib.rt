@@ -436,7 +436,7 @@ fn status_of(n: u8, code: u8) -> Status
     if 8 < n {
         return Status::Dtmf(255);
     }
-    callbytes::status_said(n, code)
+    signalbytes::status_said(n, code)
 }
 
 fn command_of(kind: u8, side: u8, signal: u8, tunnel: u8, code: u8) -> Command
@@ -474,9 +474,9 @@ fn commanded_said(a: call::Answer) -> Commanded
         call::Answer::Delivered(x) => Commanded {
             number: 0,
             delivered: 1,
-            signal: wide_8(callbytes::signal_number(x)),
-            tunnel: wide_8(callbytes::signal_tunnel(x)),
-            code: wide_8(callbytes::signal_code(x)),
+            signal: wide_8(signalbytes::signal_number(x)),
+            tunnel: wide_8(signalbytes::signal_tunnel(x)),
+            code: wide_8(signalbytes::signal_code(x)),
         },
         call::Answer::Refused(r) => Commanded {
             number: wide_8(r.number()),

@@ -7,7 +7,8 @@ use lib.ListN.{length, drop}
 use lib.Seq.{sets}
 use mathlib.Core.List.{List}
 use Rattle.call.specs.Protocol.{slot}
-use Rattle.callbytes.specs.Codec.{signalNumber, slotBytes, slotsBytes}
+use Rattle.signalbytes.specs.Numbers.{signalNumber}
+use Rattle.callbytes.specs.Codec.{slotBytes, slotsBytes}
 use Rattle.callbytes.specs.Parts.{Blank}
 use Rattle.callbytes.proofs.Slots.{put-all, put-next, put-end}
 use Rattle.callbytes.proofs.Blanks.{skipped, blank-past, less-blank}

@@ -1,7 +1,7 @@
--- `callbytes::status_said` meets its contract. Assumes nothing.
+-- `signalbytes::status_said` meets its contract. Assumes nothing.
 use borrow.Author.Tests.{eq-eqb, ne-eqb}
-use Rattle.callbytes.proofs.status_said.Statement.{statement}
-use Rattle.callbytes.proofs.status_said.Tie as tie
+use Rattle.signalbytes.proofs.status_said.Statement.{statement}
+use Rattle.signalbytes.proofs.status_said.Tie as tie
 
 returns : tie.Need-returns
 returns c = rw (eq-eqb _ 3 (c .if1 .taken))

@@ -1,7 +1,7 @@
--- `callbytes::state_said` meets its contract. Assumes nothing.
+-- `signalbytes::state_said` meets its contract. Assumes nothing.
 use borrow.Author.Tests.{eq-eqb, ne-eqb}
-use Rattle.callbytes.proofs.state_said.Statement.{statement}
-use Rattle.callbytes.proofs.state_said.Tie as tie
+use Rattle.signalbytes.proofs.state_said.Statement.{statement}
+use Rattle.signalbytes.proofs.state_said.Tie as tie
 
 returns : tie.Need-returns
 returns c = rw (eq-eqb _ 0 (c .if1 .taken))

@@ -1,8 +1,8 @@
--- `callbytes::signal_said` meets its contract. Assumes nothing.
+-- `signalbytes::signal_said` meets its contract. Assumes nothing.
 use borrow.Author.Tests.{eq-eqb, ne-eqb}
 use borrow.Author.Needs.{needs}
-use Rattle.callbytes.proofs.signal_said.Statement.{statement}
-use Rattle.callbytes.proofs.signal_said.Tie as tie
+use Rattle.signalbytes.proofs.signal_said.Statement.{statement}
+use Rattle.signalbytes.proofs.signal_said.Tie as tie
 
 returns : tie.Need-returns
 returns c = rw (eq-eqb _ 0 (c .if1 .taken))

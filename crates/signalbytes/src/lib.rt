@@ -1,0 +1,137 @@
+// The numbers of an end's states and of the signals, for programs in other languages. Any number is a state's and a signal's.
+ghost use mathlib.Core.Path.{_≡_};
+ghost use Rattle.signalbytes.specs.Numbers.{stateNumber, statusNumber, statusCode, signalNumber, signalTunnel, signalCode, stateSaid, statusSaid, signalSaid};
+use ends::Signal;
+use ends::State;
+use ends::Status;
+
+// ---- the numbers of the cases
+
+pub fn state_number(s: State) -> u8
+    ensures { λ r. ⌜ r ≡ stateNumber s ⌝ }
+{
+    match s {
+        State::Idle => 0,
+        State::Requesting => 1,
+        State::Waiting => 2,
+        State::Linked => 3,
+        State::Unlinking => 4,
+    }
+}
+
+fn status_number(s: Status) -> u8
+    ensures { λ r. ⌜ r ≡ statusNumber s ⌝ }
+{
+    match s {
+        Status::Unknown => 3,
+        Status::Avail => 4,
+        Status::Unavail => 5,
+        Status::None => 6,
+        Status::Dtmf(_) => 7,
+        Status::Special(_) => 8,
+    }
+}
+
+fn status_code(s: Status) -> u8
+    ensures { λ r. ⌜ r ≡ statusCode s ⌝ }
+{
+    match s {
+        Status::Unknown => 0,
+        Status::Avail => 0,
+        Status::Unavail => 0,
+        Status::None => 0,
+        Status::Dtmf(n) => n,
+        Status::Special(n) => n,
+    }
+}
+
+pub fn signal_number(x: Signal) -> u8
+    ensures { λ r. ⌜ r ≡ signalNumber x ⌝ }
+{
+    match x {
+        Signal::Upack => 0,
+        Signal::Teardown => 1,
+        Signal::Downack => 2,
+        Signal::Ordinary(_, s) => status_number(s),
+    }
+}
+
+pub fn signal_tunnel(x: Signal) -> u8
+    ensures { λ r. ⌜ r ≡ signalTunnel x ⌝ }
+{
+    match x {
+        Signal::Upack => 0,
+        Signal::Teardown => 0,
+        Signal::Downack => 0,
+        Signal::Ordinary(t, _) => t,
+    }
+}
+
+pub fn signal_code(x: Signal) -> u8
+    ensures { λ r. ⌜ r ≡ signalCode x ⌝ }
+{
+    match x {
+        Signal::Upack => 0,
+        Signal::Teardown => 0,
+        Signal::Downack => 0,
+        Signal::Ordinary(_, s) => status_code(s),
+    }
+}
+
+// ---- and back: any number
+
+pub fn state_said(n: u8) -> State
+    ensures { λ r. ⌜ r ≡ stateSaid n ⌝ }
+{
+    if n == 0 {
+        return State::Idle;
+    }
+    if n == 1 {
+        return State::Requesting;
+    }
+    if n == 2 {
+        return State::Waiting;
+    }
+    if n == 3 {
+        State::Linked
+    } else {
+        State::Unlinking
+    }
+}
+
+pub fn status_said(n: u8, code: u8) -> Status
+    ensures { λ r. ⌜ r ≡ statusSaid n code ⌝ }
+{
+    if n == 3 {
+        return Status::Unknown;
+    }
+    if n == 4 {
+        return Status::Avail;
+    }
+    if n == 5 {
+        return Status::Unavail;
+    }
+    if n == 6 {
+        return Status::None;
+    }
+    if n == 7 {
+        Status::Dtmf(code)
+    } else {
+        Status::Special(code)
+    }
+}
+
+pub fn signal_said(n: u8, tunnel: u8, code: u8) -> Signal
+    ensures { λ r. ⌜ r ≡ signalSaid n tunnel code ⌝ }
+{
+    if n == 0 {
+        return Signal::Upack;
+    }
+    if n == 1 {
+        return Signal::Teardown;
+    }
+    if n == 2 {
+        return Signal::Downack;
+    }
+    Signal::Ordinary(tunnel, status_said(n, code))
+}
