@@ -336,7 +336,7 @@ pub fn new_setup(plan: Plan, maker: Maker, string: &[u8], target_arg: u32) -> An
     ensures { λ r. ⌜ r ≡ newAnswer plan maker (now (string .entry)) «target_arg» ⌝ }
     ensures numbered { λ r. ⌜ (numberOfOutcome (r .outcome) ≡ firstOf (newRows plan maker (now (string .entry)) «target_arg»)) × (placeOfOutcome (r .outcome) ≡ cond (sound plan) Nowhere (At 0)) ⌝ }
 {
-    let kept = plan::sound(plan);
+    let kept = soundness::sound(plan);
     new_tested(kept, plan, maker, string, target_arg)
 }
 
@@ -369,7 +369,7 @@ pub fn continued_setup(
     ensures { λ r. ⌜ r ≡ continuedAnswer plan maker s «source_arg» (now (string .entry)) «target_arg» ⌝ }
     ensures numbered { λ r. ⌜ (numberOfOutcome (r .outcome) ≡ firstOf (continuedRows plan maker s «source_arg» (now (string .entry)) «target_arg»)) × (placeOfOutcome (r .outcome) ≡ cond (sound plan) Nowhere (At 0)) ⌝ }
 {
-    let kept = plan::sound(plan);
+    let kept = soundness::sound(plan);
     continued_tested(kept, plan, maker, s, source_arg, string, target_arg)
 }
 
@@ -409,6 +409,6 @@ pub fn reversed_setup(
     ensures { λ r. ⌜ r ≡ reversedAnswer plan maker s «source_arg» (now (string .entry)) «target_arg» ⌝ }
     ensures numbered { λ r. ⌜ (numberOfOutcome (r .outcome) ≡ firstOf (reversedRows plan maker s «source_arg» (now (string .entry)) «target_arg»)) × (placeOfOutcome (r .outcome) ≡ cond (sound plan) Nowhere (At 0)) ⌝ }
 {
-    let kept = plan::sound(plan);
+    let kept = soundness::sound(plan);
     reversed_tested(kept, plan, maker, s, source_arg, string, target_arg)
 }

@@ -1,4 +1,4 @@
--- The rules of a subscriber's box numbers place by place, as the loop of `boxes_sound` goes through them. Assumes nothing.
+-- The rules of a subscriber's box numbers place by place, as the loop of `rules::boxes_sound` goes through them. Assumes nothing.
 use mathlib.Core.Path.{_≡_, refl, ap, _∙_}
 use mathlib.Core.Bool.{Bool, false, true, not, _&&_}
 use Prim.Native.Nat.{ℕ, zero, suc, _<_}

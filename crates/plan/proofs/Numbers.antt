@@ -23,7 +23,7 @@ use Rattle.plan.specs.Sound.{numbersApart}
 use Rattle.plan.specs.Table.{holder, entered, mayTake, fits, takes, claimed}
 use Rattle.plan.proofs.Words.{entered-own, entered-other, entered-length, holder-none}
 
--- ---- the loop of `claim`
+-- ---- the loop of `soundness::claim`
 
 -- what the numbers from place x on still do to the table
 unfoldable pub rest : List ℕ → Subscriber → ℕ → List ℕ

@@ -1,4 +1,4 @@
--- The rules of the subscribers one after the other, as the loop of `subscribers_sound` goes through them. Assumes nothing.
+-- The rules of the subscribers one after the other, as the loop of `soundness::all_sound` goes through them. Assumes nothing.
 use mathlib.Core.Path.{_≡_, sym, ap, _∙_}
 use mathlib.Core.Bool.{Bool, true, false, _&&_}
 use mathlib.Core.Logic.{_⊎_, inl, inr, ⊎-elim}

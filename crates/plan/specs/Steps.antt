@@ -1,4 +1,4 @@
--- What the small functions of a subscriber's test answer: a rule at one box number, or beside the subscriber before. Assumes nothing.
+-- What the small functions of a subscriber's test (`rules`, `soundness`) answer: a rule at one box number, or beside the subscriber before. Assumes nothing.
 use Prim.Native.Nat.{ℕ}
 use mathlib.Core.Bool.{Bool, not, _&&_}
 use mathlib.Core.List.{List}

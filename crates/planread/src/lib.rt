@@ -276,14 +276,14 @@ fn beside(s: Subscriber, last: u32, taken: &[u32; 4096]) -> bool
     if s.address <= last {
         return false;
     }
-    plan::fits(taken, s)
+    soundness::fits(taken, s)
 }
 
 // Whether a subscriber keeps its own rules, its number of boxes among them, and those beside the ones before it.
 fn keeps(types: Types, s: Subscriber, last: u32, taken: &[u32; 4096]) -> bool
     ensures { λ r. ⌜ r ≡ (ownSound types s && ltb last (s .address) && fits (now (taken .entry)) s) ⌝ }
 {
-    if plan::own_sound(types, s) {
+    if rules::own_sound(types, s) {
         beside(s, last, taken)
     } else {
         false
@@ -320,7 +320,7 @@ fn read_subscribers(
         if !keeps(types, s, last, taken) {
             return refused(Refusal::RuleBroken(at));
         }
-        plan::claim(taken, s);
+        soundness::claim(taken, s);
         subscribers[count] = s;
         last = s.address;
         count += 1;
@@ -334,12 +334,12 @@ fn due(tag: u8, types: Types, source: [u32; 32], target: [u32; 32]) -> bool
     ensures { λ r. ⌜ r ≡ cond (ltb tag 3) (typesSound types) (cond (ltb tag 4) (sourceSound types source) (targetSound types source target)) ⌝ }
 {
     if tag < 3 {
-        return plan::types_sound(types);
+        return rules::types_sound(types);
     }
     if tag < 4 {
-        return plan::source_sound(types, source);
+        return rules::source_sound(types, source);
     }
-    plan::target_sound(types, source, target)
+    rules::target_sound(types, source, target)
 }
 
 // From the target order on.

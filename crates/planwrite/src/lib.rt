@@ -229,6 +229,6 @@ pub fn write(plan: Plan, room: &mut [u8]) -> Written
     ensures numbered { λ r. ⌜ (numberWritten r ≡ cond (sound plan) (cond (leb (length (bytesOf plan)) (length (now (room .entry)))) 0 25) 23)
         × (placeWritten r ≡ cond (sound plan && leb (length (bytesOf plan)) (length (now (room .entry)))) Nowhere (At 0)) ⌝ }
 {
-    let kept = plan::sound(plan);
+    let kept = soundness::sound(plan);
     write_tested(kept, plan, room)
 }

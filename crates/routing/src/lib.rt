@@ -423,7 +423,7 @@ pub fn route_unless(
         × (now («source_list» .exit) ≡ sourceList plan out (outcome plan out later (length (now («source_list» .entry))) (length (now («target_list» .entry)))) (now («source_list» .entry)))
         × (now («target_list» .exit) ≡ targetList plan out (outcome plan out later (length (now («source_list» .entry))) (length (now («target_list» .entry)))) (now («target_list» .entry))) ⌝ }
 {
-    let kept = plan::sound(plan);
+    let kept = soundness::sound(plan);
     route_tested(kept, plan, out, later, source_list, target_list)
 }
 

@@ -106,7 +106,7 @@ pub fn zone_at(plan: Plan, region: Region, address: u32) -> Zone
 pub fn zone_for(plan: Plan, region: Region, address: u32) -> Answer
     ensures { λ r. ⌜ r ≡ answer plan region address ⌝ }
 {
-    if plan::sound(plan) {
+    if soundness::sound(plan) {
         Answer {
             verdict: Verdict::Sound,
             zone: zone_at(plan, region, address),
