@@ -1,5 +1,5 @@
 // Placing a call in a port or in a row, where they are lent (01 'Calls'): 23, 5, 18, 16, 11, in this order; on any refusal no list, no record and no byte is changed.
-// The two functions that touch what is lent are thin and their proofs are walks by hand; every decision is made by a function of values.
+// The functions that touch what is lent, or lend a record or a row of their own, are thin and their proofs are walks by hand; every decision is made by a function of values.
 use call::Call;
 use plan::Plan;
 use refusal::Refusal;
