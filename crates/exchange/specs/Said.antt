@@ -1,6 +1,6 @@
 -- What a command answers in document 01's numbers, 0 for what is accepted: the lines of its table in its order, 16, 10, then 17 for counts, 12, 15, 13, 14, and 17 for the rest. Assumes nothing.
 use Prim.Native.Nat.{ℕ, _+_}
-use mathlib.Core.Bool.{Bool, true, false, cond, not, _&&_}
+use mathlib.Core.Bool.{Bool, true, false, cond, _&&_}
 use mathlib.Core.List.{List, [], _∷_}
 use lib.ListN.{length}
 use lib.Dec.{ltb, leb, eqb}

@@ -2,7 +2,6 @@
 // The functions that touch what is lent are thin and their proofs are walks by hand.
 use call::Call;
 ghost use mathlib.Core.Path.{_≡_};
-ghost use Prim.Native.Nat.{_+_, _<_, _≤_};
 ghost use lib.ListN.{length, set, replicate};
 ghost use Rattle.call.specs.Protocol.{cleared};
 ghost use Rattle.call.specs.Row.{recordAt, lowestFree};

@@ -19,7 +19,7 @@ use Rattle.call.specs.declared.Command.{Command}
 use Rattle.call.specs.Row.{Act, place, command, recordAt, refuses, put, turn, turns, numberOfReply, own, placings}
 use Rattle.call.specs.Protocol.{isFree, step, numberIn, cleared, nextUse}
 use Rattle.teardown.specs.Teardown.{PlacedLowest, FirstTeardownIn, ClosesIn}
-use Rattle.placing.specs.Rows.{outcomeIn, answerIn, placedIn, rowAfter}
+use Rattle.placing.specs.Rows.{outcomeIn, placedIn, rowAfter}
 
 -- a placing of a setup under a plan, with n and m places in the two lists; or a command for a record and a use number
 pub data Operation : Type 0 where
