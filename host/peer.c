@@ -74,8 +74,19 @@ static bool reversible_ordered(const plan *p, bool with_target) {
     return true;
 }
 
-/* kind_of[n]: the kind of the boxes with the number n so far. */
-static bool subscriber_sound(const plan *p, const subscriber *s, uint32_t last, const uint8_t kind_of[65536]) {
+/* The kind of the boxes with each number so far, 0 where there are none: a byte for each number; with PEER_LEAN two bits, so that a quarter is cleared at
+ * each read. (A subscriber that keeps its own rules and has a box is of the kind 1, 2 or 3.) */
+#ifdef PEER_LEAN
+typedef uint32_t kinds[4096];
+static uint8_t kind_at(const uint32_t *k, uint16_t n) { return (uint8_t)(k[n / 16] >> (n % 16 * 2) & 3); }
+static void enter(uint32_t *k, uint16_t n, uint8_t kind) { k[n / 16] |= (uint32_t)kind << (n % 16 * 2); }
+#else
+typedef uint8_t kinds[65536];
+static uint8_t kind_at(const uint8_t *k, uint16_t n) { return k[n]; }
+static void enter(uint8_t *k, uint16_t n, uint8_t kind) { k[n] = kind; }
+#endif
+
+static bool subscriber_sound(const plan *p, const subscriber *s, uint32_t last, const kinds kind_of) {
     static const uint8_t least[5] = {0, 1, 0, 1, 0}, most[5] = {0, 1, 4, 4, 0};
     if (s->kind < 1 || s->kind > 4 || s->address == 0 || s->address > MAX_ADDRESS) return false;
     if (s->boxes < least[s->kind] || s->boxes > most[s->kind]) return false;
@@ -83,7 +94,7 @@ static bool subscriber_sound(const plan *p, const subscriber *s, uint32_t last, 
     if (!FAULT(2) && (s->source & p->reversible) != (s->target & p->reversible)) return false;
     if (s->address <= last) return false;
     for (unsigned i = 0; i < s->boxes; i++) {
-        uint8_t of = kind_of[s->box[i]];
+        uint8_t of = kind_at(kind_of, s->box[i]);
         if (s->box[i] == 0 || (of != 0 && (of != s->kind || s->kind == 1))) return false;
         for (unsigned j = 0; j < i; j++)
             if (s->box[j] == s->box[i]) return false;
@@ -106,7 +117,7 @@ static bool length_possible(uint8_t tag, uint32_t n) {
 
 static dfc_answer read_plan(const uint8_t *file, size_t size, plan *p) {
     static const uint8_t fixed[4] = {1, 2, 3, 4};
-    uint8_t kind_of[65536];
+    kinds kind_of;
     uint32_t last = 0;
     size_t at = 0;
     memset(p, 0, offsetof(plan, sub));
@@ -141,7 +152,7 @@ static dfc_answer read_plan(const uint8_t *file, size_t size, plan *p) {
             s->boxes = (uint8_t)((n - 13) / 2);
             for (unsigned i = 0; i < s->boxes; i++) s->box[i] = (uint16_t)get2(f + 13 + 2 * i);
             if (!subscriber_sound(p, s, last, kind_of)) return answer(23, at);
-            for (unsigned i = 0; i < s->boxes; i++) kind_of[s->box[i]] = s->kind;
+            for (unsigned i = 0; i < s->boxes; i++) enter(kind_of, s->box[i], s->kind);
             last = s->address;
             p->count++;
             break;

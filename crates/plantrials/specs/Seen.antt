@@ -9,7 +9,7 @@ use Rattle.refusal.specs.declared.Place.{Place}
 use Rattle.refusal.specs.declared.Place.the-variants.{Nowhere, At}
 use Rattle.refusal.specs.Numbers.{numberOf, placeOf}
 use Rattle.plan.specs.declared.Verdict.{Verdict}
-use Rattle.plan.specs.declared.Verdict.the-variants.{Sound, Refused}
+use Rattle.plan.specs.Sound.{numberSaid, placeSaid}
 use Rattle.planread.specs.Reading.{readOf}
 use Rattle.plantrials.specs.declared.Seen.{Seen}
 
@@ -21,9 +21,9 @@ placeSeen (At n) = n
 abbrev pub refusalSeen : Refusal → Seen
 refusalSeen r = record { number = numberOf r; place = placeSeen (placeOf r) }
 
+-- 0 at 0 for a sound plan
 abbrev pub verdictSeen : Verdict → Seen
-verdictSeen Sound = record { number = 0; place = 0 }
-verdictSeen (Refused r) = refusalSeen r
+verdictSeen v = record { number = numberSaid v; place = placeSeen (placeSaid v) }
 
 -- the first n bytes of a file, read; 255, which is no number of document 01, where it has fewer
 unfoldable pub firstSeen : List ℕ → ℕ → Seen
