@@ -3,6 +3,7 @@ pub mod Words
 pub mod Numbers
 pub mod Subscribers
 pub mod Lookup
+pub mod Sight
 pub mod Laws
 pub mod AllRules
 pub mod Exact

@@ -3,7 +3,7 @@ use Prim.Native.Nat.{ℕ}
 use mathlib.Core.Bool.{Bool, not, _&&_}
 use mathlib.Core.List.{List, []}
 use lib.Dec.{eqb, leb}
-use lib.ListN.{getD}
+use lib.ListN.{getD, replicate}
 use Rattle.plan.specs.declared.Region.{Region}
 use Rattle.plan.specs.declared.Region.the-variants.{Source, Target}
 use Rattle.plan.specs.declared.Types.{Types}
@@ -38,6 +38,10 @@ boxNumber n = leb 1 n && leb n 65535
 -- what stands past the last of the 256 places: nobody
 abbrev pub nobody : Subscriber
 nobody = record { kind = 0; address = 0; source = 0; target = 0; boxes = []; count = 0 }
+
+-- a place that nobody has: all zero
+abbrev pub noSubscriber : Subscriber
+noSubscriber = record { kind = 0; address = 0; source = 0; target = 0; boxes = replicate 4 0; count = 0 }
 
 -- the subscriber at place i
 abbrev pub at : List Subscriber → ℕ → Subscriber

@@ -1,8 +1,8 @@
 // The plan of a switchboard: which box types there are, how they are ordered, and who subscribes to what. The tests of its rules are in the crates `rules` and `soundness`.
 ghost use mathlib.Core.Path.{_≡_};
 ghost use Prim.Native.Nat.{min};
-ghost use Rattle.plan.specs.Parts.{legal, given};
-ghost use Rattle.plan.specs.Find.{lookup};
+ghost use Rattle.plan.specs.Parts.{legal, given, noSubscriber};
+ghost use Rattle.plan.specs.Find.{lookup, holderAt, seen};
 use refusal::Refusal;
 
 // A region of a usage: the boxes of the caller's address, and those of the callee's.
@@ -38,6 +38,16 @@ pub struct Plan {
     pub target_order: [u32; 32],
     pub subscribers: [Subscriber; 256],
     pub count: u16,
+}
+
+// What a plan shows to an operation on one setup, which asks for two addresses: the types, the two orders, and the subscribers of the two addresses, all zero where nobody has one. It is a
+// twentieth of the plan, so that who has it need not hand a plan on.
+pub struct Seen {
+    pub types: Types,
+    pub source_order: [u32; 32],
+    pub target_order: [u32; 32],
+    pub first: Subscriber,
+    pub second: Subscriber,
 }
 
 // What the test of a plan answers.
@@ -96,4 +106,49 @@ pub fn find(plan: Plan, address: u32) -> Found
         }
     }
     Found::Nothing
+}
+
+// ---- what a plan shows
+
+// What stands in a place that nobody has: all zero.
+pub fn no_subscriber() -> Subscriber
+    ensures { λ r. ⌜ r ≡ noSubscriber ⌝ }
+{
+    Subscriber {
+        address: 0,
+        source: 0,
+        target: 0,
+        boxes: [0u16; 4],
+        kind: 0,
+        count: 0,
+    }
+}
+
+// The subscriber of an address; all zero where nobody has it.
+fn holder(plan: Plan, address: u32) -> Subscriber
+    ensures { λ r. ⌜ r ≡ holderAt plan address ⌝ }
+{
+    let Found::At(i) = find(plan, address) else {
+        return no_subscriber();
+    };
+    let subscribers = plan.subscribers;
+    subscribers[i]
+}
+
+// What any plan shows of two addresses.
+pub fn look(plan: Plan, first: u32, second: u32) -> Seen
+    ensures { λ r. ⌜ r ≡ seen plan first second ⌝ }
+{
+    let types = plan.types;
+    let source_order = plan.source_order;
+    let target_order = plan.target_order;
+    let one = holder(plan, first);
+    let other = holder(plan, second);
+    Seen {
+        types,
+        source_order,
+        target_order,
+        first: one,
+        second: other,
+    }
 }

@@ -27,7 +27,8 @@ use Rattle.planbytes.specs.Format.{field, versionBody, setsOf, typesBody, order
 use Rattle.planbytes.proofs.Lengths.{field-length}
 use Rattle.planbytes.proofs.Rounds.{high-number, below-drop}
 use Rattle.planread.specs.declared.Reading.{Reading}
-use Rattle.planread.specs.Reading.{noSubscriber, planOf, blankPlan, tagOf, lengthOf, bodyOf, after, typesIn, orderIn, subscriberIn, allowed, everLong, header, entered, kept, refused, accepted, ended, readFrom, readOf}
+use Rattle.planread.specs.Reading.{planOf, blankPlan, tagOf, lengthOf, bodyOf, after, typesIn, orderIn, subscriberIn, allowed, everLong, header, entered, kept, refused, accepted, ended, readFrom, readOf}
+use Rattle.plan.specs.Parts.{noSubscriber}
 use Rattle.planread.proofs.Places.{every-alike}
 use Rattle.planread.proofs.Steps.{header-passed, read-refused, read-broken, read-on, read-end, version-next, types-next, source-next, target-next, end-next, subscriber-next}
 use Rattle.planfile.specs.Typed.{TypedSubscriber, AllTyped, Typed}

@@ -21,7 +21,8 @@ use Rattle.plan.specs.Rules.{kindKnown, countFits, numbersGiven, numbersDiffer,
 use Rattle.plan.specs.Sound.{boxesSound, ownSound, sound}
 use Rattle.plan.proofs.Subscribers.{own-kind, own-count, own-boxes}
 use Rattle.plan.proofs.Laws.{few, rest-kept}
-use Rattle.planread.specs.Reading.{noSubscriber, planOf}
+use Rattle.planread.specs.Reading.{planOf}
+use Rattle.plan.specs.Parts.{noSubscriber}
 use Rattle.planread.proofs.Places.{Alike}
 use Rattle.planfile.specs.Typed.{TypedSubscriber, AllTyped, Typed}
 use Rattle.planfile.proofs.Bodies.{zeros}

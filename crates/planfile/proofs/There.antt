@@ -20,7 +20,8 @@ use Rattle.plan.proofs.Laws.{few, types-kept, source-kept, target-kept, subscri
 use Rattle.planbytes.specs.Numbers.{high, numberAfter, number, Below}
 use Rattle.planbytes.specs.Format.{field, versionBody, setsOf, typesBody, orderBody, subscriberBody, subscriberFields, headFields, endField, bytesOf}
 use Rattle.planbytes.proofs.Lengths.{types-length, order-length, field-length}
-use Rattle.planread.specs.Reading.{noSubscriber, planOf, blankPlan, allowed, everLong, entered, kept, accepted, ended, readFrom, readOf}
+use Rattle.planread.specs.Reading.{planOf, blankPlan, allowed, everLong, entered, kept, accepted, ended, readFrom, readOf}
+use Rattle.plan.specs.Parts.{noSubscriber}
 use Rattle.planread.proofs.Places.{sound-alike, every-alike}
 use Rattle.planwrite.proofs.Files.{file-length}
 use Rattle.planfile.specs.Typed.{TypedSubscriber, AllTyped, Typed}

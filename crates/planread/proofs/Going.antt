@@ -14,7 +14,8 @@ use Rattle.plan.specs.Sound.{subscriberSound}
 use Rattle.plan.specs.Table.{claimed}
 use Rattle.plan.proofs.Numbers.{Taken, taken-none}
 use Rattle.plan.proofs.Subscribers.{table-next}
-use Rattle.planread.specs.Reading.{noSubscriber, planOf, readFrom}
+use Rattle.planread.specs.Reading.{planOf, readFrom}
+use Rattle.plan.specs.Parts.{noSubscriber}
 use Rattle.planread.proofs.Places.{lastAddress, every-alike, taken-alike, set-alike, set-there}
 
 pub record Going (bs : List ℕ) (t : Types) (source target : List ℕ) (taken : List ℕ) (subs : List Subscriber) (count last at : ℕ) : Type 0 where

@@ -15,7 +15,8 @@ use Rattle.plan.specs.declared.Plan.{Plan}
 use Rattle.plan.specs.declared.Verdict.the-variants.{Sound, Refused}
 use Rattle.plan.specs.Sound.{typesSound, sourceSound, targetSound, subscriberSound}
 use Rattle.planbytes.specs.Numbers.{number}
-use Rattle.planread.specs.Reading.{noSubscriber, noTypes, planOf, blankPlan, tagOf, lengthOf, typesIn, orderIn, boxesIn, subscriberWith, subscriberIn, entered, kept, header, refused, ended, readFrom, readOf}
+use Rattle.planread.specs.Reading.{noTypes, planOf, blankPlan, tagOf, lengthOf, typesIn, orderIn, boxesIn, subscriberWith, subscriberIn, entered, kept, header, refused, ended, readFrom, readOf}
+use Rattle.plan.specs.Parts.{noSubscriber}
 use Rattle.planbytes.proofs.Numbers.{one-at}
 use Rattle.planread.proofs.Fields.{tag-at, length-at}
 use Rattle.planread.proofs.Steps.{Passed, Next, header-passed, read-refused, types-part, order-part, subscriber-part, version-next, types-next, source-next, target-next, end-next, subscriber-next, at-room, at-broken, at-end, at-on}

@@ -11,14 +11,12 @@ use Rattle.plan.specs.declared.Subscriber.{Subscriber}
 use Rattle.plan.specs.declared.Plan.{Plan}
 use Rattle.plan.specs.declared.Verdict.{Verdict}
 use Rattle.plan.specs.declared.Verdict.the-variants.{Sound, Refused}
+use Rattle.plan.specs.Parts.{noSubscriber}
 use Rattle.plan.specs.Sound.{typesSound, sourceSound, targetSound, subscriberSound}
 use Rattle.planread.specs.declared.Reading.{Reading}
 use Rattle.planbytes.specs.Numbers.{number, numbers}
 
 -- ---- blanks: all zero
-
-abbrev pub noSubscriber : Subscriber
-noSubscriber = record { kind = 0; address = 0; source = 0; target = 0; boxes = replicate 4 0; count = 0 }
 
 abbrev pub noTypes : Types
 noTypes = record { existing = 0; bound = 0; reversible = 0; «source_choice» = 0; «target_choice» = 0 }

@@ -1,0 +1,47 @@
+-- `plan::holder` meets its contract. Assumes nothing.
+use mathlib.Core.Path.{refl, sym, _∙_}
+use native.Mathlib.Omega.{arith}
+use borrow.Author.Needs.{needs}
+use Rattle.plan.specs.Find.{holderAt}
+use Rattle.plan.proofs.Lookup.{found-below}
+use Rattle.plan.proofs.holder.Statement.{statement}
+use Rattle.plan.proofs.holder.Tie as tie
+
+find-requires : tie.Need-find-requires
+find-requires c κs = search needs
+
+enum-known-i : tie.Need-enum-known-i
+enum-known-i c = search needs
+
+enum-told : tie.Need-enum-told
+enum-told c = search needs
+
+no-subscriber-requires : tie.Need-no-subscriber-requires
+no-subscriber-requires c κs = search needs
+
+returns : tie.Need-returns
+unfolding holderAt
+returns c = rw (sym (c .before .before .before .find .ensures) ∙ c .before .enum-told .given .1) (c .no-subscriber .ensures)
+
+mul-result : tie.Need-mul-result
+mul-result c = omega (arith, found-below _ _ _ (sym (c .before .before .before .before .find .ensures) ∙ c .before .before .i .given .1))
+
+array-copy-out-result : tie.Need-array-copy-out-result
+array-copy-out-result c = found-below _ _ _ (sym (c .before .before .before .before .find .ensures) ∙ c .before .before .i .given .1)
+
+returns-2 : tie.Need-returns-2
+unfolding holderAt
+returns-2 c = rw (sym (c .before .before .before .before .before .find .ensures) ∙ c .before .before .before .i .given .1) refl
+
+pub holder-spec : {M : Type 1} → statement M
+holder-spec =
+    tie.close
+    (tie.spec
+    find-requires
+    enum-known-i
+    enum-told
+    no-subscriber-requires
+    returns
+    mul-result
+    array-copy-out-result
+    returns-2)
