@@ -21,22 +21,15 @@ fn carries(rows: &[u32; 32], row: u32, b: u32) -> bool
 fn closed(rows: &[u32; 32], row: u32) -> bool
     ensures { λ r. ⌜ r ≡ closed (now (rows .entry)) row ⌝ }
 {
-    for b in 0..32u32 {
+    let mut left = row;
+    while left != 0 {
+        let b = typeset::lowest(left);
         if !carries(rows, row, b) {
             return false;
         }
+        left = typeset::without(left, b);
     }
     true
-}
-
-// The same; an empty row has no type to ask for.
-fn row_closed(rows: &[u32; 32], row: u32) -> bool
-    ensures { λ r. ⌜ r ≡ closed (now (rows .entry)) row ⌝ }
-{
-    if row == 0 {
-        return true;
-    }
-    closed(rows, row)
 }
 
 // Whether the type t is chosen or its row is empty.
@@ -50,12 +43,15 @@ fn empty_unless(chosen: u32, t: u32, row: u32) -> bool
     }
 }
 
-// L2 to L5 at the type t.
+// L2 to L5 at the type t. An empty row keeps them.
 fn row_sound(chosen: u32, rows: &[u32; 32], t: u32) -> bool
     requires { ⌜ t < 32 ⌝ }
     ensures { λ r. ⌜ r ≡ rowSound chosen (now (rows .entry)) t ⌝ }
 {
     let row = rows[t as usize];
+    if row == 0 {
+        return true;
+    }
     if !typeset::within(row, chosen) {
         return false;
     }
@@ -65,7 +61,7 @@ fn row_sound(chosen: u32, rows: &[u32; 32], t: u32) -> bool
     if typeset::has(row, t) {
         return false;
     }
-    row_closed(rows, row)
+    closed(rows, row)
 }
 
 // Whether the order of a region with this choice keeps L2 to L5.
@@ -111,33 +107,28 @@ fn ordered_at(reversible: u32, source: &[u32; 32], a: u32) -> bool
     requires { ⌜ a < 32 ⌝ }
     ensures { λ r. ⌜ r ≡ orderedAt reversible (now (source .entry)) a ⌝ }
 {
-    for b in 0u32..32u32 {
+    let mut left = reversible;
+    while left != 0 {
+        let b = typeset::lowest(left);
         if !pair_ordered(reversible, source, a, b) {
             return false;
         }
+        left = typeset::without(left, b);
     }
     true
-}
-
-// The same; a type that is not one of these is beside none.
-fn ordered_beside(reversible: u32, source: &[u32; 32], a: u32) -> bool
-    requires { ⌜ a < 32 ⌝ }
-    ensures { λ r. ⌜ r ≡ orderedAt reversible (now (source .entry)) a ⌝ }
-{
-    if !typeset::has(reversible, a) {
-        return true;
-    }
-    ordered_at(reversible, source, a)
 }
 
 // L8: whether any two of these types are ordered.
 pub fn reversible_ordered(reversible: u32, source: [u32; 32]) -> bool
     ensures { λ r. ⌜ r ≡ reversibleOrdered reversible source ⌝ }
 {
-    for a in 0u32..32u32 {
-        if !ordered_beside(reversible, &source, a) {
+    let mut left = reversible;
+    while left != 0 {
+        let a = typeset::lowest(left);
+        if !ordered_at(reversible, &source, a) {
             return false;
         }
+        left = typeset::without(left, a);
     }
     true
 }
@@ -165,33 +156,28 @@ fn opposed_at(reversible: u32, source: &[u32; 32], target: &[u32; 32], a: u32) -
     requires { ⌜ a < 32 ⌝ }
     ensures { λ r. ⌜ r ≡ opposedAt reversible (now (source .entry)) (now (target .entry)) a ⌝ }
 {
-    for b in 0u32..32u32 {
+    let mut left = reversible;
+    while left != 0 {
+        let b = typeset::lowest(left);
         if !pair_opposed(reversible, source, target, a, b) {
             return false;
         }
+        left = typeset::without(left, b);
     }
     true
-}
-
-// The same; a type that is not one of these is beside none.
-fn opposed_beside(reversible: u32, source: &[u32; 32], target: &[u32; 32], a: u32) -> bool
-    requires { ⌜ a < 32 ⌝ }
-    ensures { λ r. ⌜ r ≡ opposedAt reversible (now (source .entry)) (now (target .entry)) a ⌝ }
-{
-    if !typeset::has(reversible, a) {
-        return true;
-    }
-    opposed_at(reversible, source, target, a)
 }
 
 // L9: whether any two of these types are ordered one way in the source order and the other way in the target order.
 pub fn reversible_opposed(reversible: u32, source: [u32; 32], target: [u32; 32]) -> bool
     ensures { λ r. ⌜ r ≡ reversibleOpposed reversible source target ⌝ }
 {
-    for a in 0u32..32u32 {
-        if !opposed_beside(reversible, &source, &target, a) {
+    let mut left = reversible;
+    while left != 0 {
+        let a = typeset::lowest(left);
+        if !opposed_at(reversible, &source, &target, a) {
             return false;
         }
+        left = typeset::without(left, a);
     }
     true
 }

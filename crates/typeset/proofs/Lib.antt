@@ -1,4 +1,5 @@
 pub mod Bools
 pub mod Below
 pub mod Laws
+pub mod Taken
 pub mod Exact

@@ -1,17 +1,17 @@
 -- The laws of `preceded`, `first` and `next` (`Order.antt`), and the steps of the loop that makes `preceded`. Assumes nothing.
-use mathlib.Core.Path.{_≡_, sym, ap, ap₂, _∙_}
-use mathlib.Core.Bool.{Bool, true, false, not, _&&_, _||_, or-false}
+use mathlib.Core.Path.{_≡_, sym, ap, _∙_}
+use mathlib.Core.Bool.{Bool, true, false, not, _&&_, _||_, or-false, or-assoc}
 use mathlib.Core.List.{List}
-use Prim.Native.Nat.{ℕ, _+_, _^_, _<_}
-use native.Mathlib.Numerals.{add-one}
+use Prim.Native.Nat.{ℕ, _^_, _<_}
 use lib.ListN.{getD}
 use lib.Dec.{eqb}
 use borrow.Author.Tests.{eqb-true, eqb-false}
 use mathlib.Core.Logic.{⊎-elim}
-use Rattle.typeset.specs.Sets.{has, some, join, lowest}
+use Rattle.typeset.specs.Sets.{has, some, without, join, lowest}
 use Rattle.typeset.proofs.Bools.{yes-or-no, and-left}
-use Rattle.typeset.proofs.Below.{some-last, setOf-lt}
+use Rattle.typeset.proofs.Below.{setOf-lt}
 use Rattle.typeset.proofs.Laws.{has-ext, has-setOf, has-join-at, has-empty, minus-lt, has-minus, has-below, lowest-has, lowest-lt}
+use Rattle.typeset.proofs.Taken.{someIn-empty, someIn-but}
 use Rattle.zone.specs.Order.{preceded, unpreceded, next}
 use Rattle.order.specs.Rules.{precedes}
 
@@ -19,30 +19,28 @@ use Rattle.order.specs.Rules.{precedes}
 abbrev pub before : List ℕ → ℕ → ℕ → ℕ → Bool
 before rows s t u = has u s && precedes rows u t
 
--- found has the types that one of the first n types precedes
+-- what a type of s precedes was found, or a type that is left precedes it
 abbrev pub Found : List ℕ → ℕ → ℕ → ℕ → Type 0
-Found rows s found n = (t : ℕ) → t < 32 → has t found ≡ some n (before rows s t)
+Found rows s found left = (t : ℕ) → t < 32 → some 32 (before rows s t) ≡ (has t found || some 32 (before rows left t))
 
-pub found-none : (rows : List ℕ) (s : ℕ) → Found rows s 0 0
-unfolding some
-found-none rows s t h = has-empty t
+pub found-none : (rows : List ℕ) (s : ℕ) → Found rows s 0 s
+found-none rows s t h = rw (has-empty t)
 
-pub found-row : (rows : List ℕ) (s found n : ℕ) → Found rows s found n → has n s ≡ true → Found rows s (join found (getD rows n 0)) (n + 1)
+-- the row of a type that is left is joined, and the type goes
+pub found-row : (rows : List ℕ) (s found left u : ℕ) → Found rows s found left → u < 32 → has u left ≡ true
+    → Found rows s (join found (getD rows u 0)) (without left u)
 unfolding precedes
-found-row rows s found n f e t h =
-    has-join-at found (getD rows n 0) t h
-    ∙ ap₂ _||_ (f t h) (ap (λ (b : Bool). b && has t (getD rows n 0)) (sym e))
-    ∙ sym (some-last n (before rows s t)) ∙ ap (λ (k : ℕ). some k (before rows s t)) (sym (add-one n))
+found-row rows s found left u f l e t h =
+    let rest = some 32 (before rows (without left u) t) in
+    f t h ∙ ap (λ (b : Bool). has t found || b) (someIn-but left (λ u. precedes rows u t) u l e)
+    ∙ sym (or-assoc (has t found) (has t (getD rows u 0)) rest)
+    ∙ ap (λ (b : Bool). b || rest) (sym (has-join-at found (getD rows u 0) t h))
 
-pub found-skip : (rows : List ℕ) (s found n : ℕ) → Found rows s found n → has n s ≡ false → Found rows s found (n + 1)
-found-skip rows s found n f e t h =
-    f t h ∙ sym (or-false (some n (before rows s t)))
-    ∙ ap (λ (b : Bool). some n (before rows s t) || (b && precedes rows n t)) (sym e)
-    ∙ sym (some-last n (before rows s t)) ∙ ap (λ (k : ℕ). some k (before rows s t)) (sym (add-one n))
-
-pub found-all : (rows : List ℕ) (s found : ℕ) → found < 2 ^ 32 → Found rows s found 32 → found ≡ preceded rows s
+pub found-all : (rows : List ℕ) (s found : ℕ) → found < 2 ^ 32 → Found rows s found 0 → found ≡ preceded rows s
 unfolding preceded
-found-all rows s found h f = has-ext 32 found _ h (setOf-lt 32 _) (λ t l. f t l ∙ sym (has-setOf 32 _ t l))
+found-all rows s found h f =
+    has-ext 32 found _ h (setOf-lt 32 _)
+    (λ t l. sym (f t l ∙ ap (λ (b : Bool). has t found || b) (someIn-empty (λ u. precedes rows u t)) ∙ or-false (has t found)) ∙ sym (has-setOf 32 _ t l))
 
 pub has-preceded : (rows : List ℕ) (s t : ℕ) → t < 32 → has t (preceded rows s) ≡ some 32 (before rows s t)
 unfolding preceded

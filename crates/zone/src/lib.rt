@@ -26,10 +26,11 @@ fn preceded(rows: [u32; 32], set: u32) -> u32
     ensures { λ r. ⌜ r ≡ preceded rows set ⌝ }
 {
     let mut found = 0u32;
-    for u in 0u32..32u32 {
-        if typeset::has(set, u) {
-            found = typeset::join(found, rows[u as usize]);
-        }
+    let mut rest = set;
+    while rest != 0 {
+        let u = typeset::lowest(rest);
+        found = typeset::join(found, rows[u as usize]);
+        rest = typeset::without(rest, u);
     }
     found
 }

@@ -1,25 +1,25 @@
--- `zone::preceded` meets its contract. The invariant says, of each type below 32, whether it was found. Assumes nothing.
-use mathlib.Core.Path.{_≡_, sym, _∙_}
-use Rattle.typeset.proofs.Laws.{join-lt}
-use mathlib.Core.Logic.{⊎-elim}
-use Prim.Native.Nat.{_≤_, _<_, _-_, _^_}
+-- `zone::preceded` meets its contract. The invariant says, of each type below 32, that a type of the set precedes it exactly where it was found or a type of the rest precedes it. Assumes nothing.
+use Prim.Native.Nat.{_<_, _^_}
 use native.Mathlib.Omega.{arith}
 use borrow.Author.Needs.{needs}
-use Rattle.zone.proofs.Rows.{Found, found-none, found-row, found-skip, found-all}
+use Rattle.typeset.specs.Sets.{size}
+use Rattle.typeset.proofs.Laws.{join-lt, without-lt}
+use Rattle.typeset.proofs.Taken.{taken-below, taken-has, taken-less}
+use Rattle.zone.proofs.Rows.{Found, found-none, found-row, found-all}
 use Rattle.zone.proofs.preceded.Statement.{statement}
 use Rattle.zone.proofs.preceded.Tie as tie
 
 abbrev Inv-loop : tie.InvT-loop
-Inv-loop set rows found₀ u₀ found u = (u ≤ 32) × (found < 2 ^ 32) × Found rows set found u
+Inv-loop set rows found₀ rest₀ found rest = (rest < 2 ^ 32) × (found < 2 ^ 32) × Found rows set found rest
 
 abbrev μ-loop : tie.MeasureT-loop
-μ-loop set rows found₀ u₀ found u = 32 - u
+μ-loop set rows found₀ rest₀ found rest = size rest
 
 loop-holds : tie.Need-loop-holds Inv-loop μ-loop
 loop-holds c = (omega arith, omega arith, found-none _ _)
 
-has-requires : tie.Need-has-requires Inv-loop μ-loop
-has-requires c κs = search needs
+lowest-requires : tie.Need-lowest-requires Inv-loop μ-loop
+lowest-requires c κs = search needs
 
 cast-join : tie.Need-cast-join Inv-loop μ-loop
 cast-join c = search needs
@@ -28,32 +28,29 @@ mul-join : tie.Need-mul-join Inv-loop μ-loop
 mul-join c = search needs
 
 array-read-join : tie.Need-array-read-join Inv-loop μ-loop
-array-read-join c = search needs
+array-read-join c = taken-below (c .before .before .loop .inv .0) (c .before .loop-test .taken) (c .lowest .ensures)
 
 join-requires : tie.Need-join-requires Inv-loop μ-loop
 join-requires c κs = search needs
 
-add-u : tie.Need-add-u Inv-loop μ-loop
-add-u c = search needs
+without-requires : tie.Need-without-requires Inv-loop μ-loop
+without-requires c κs = search needs
 
 loop-less : tie.Need-loop-less Inv-loop μ-loop
-loop-less c = search needs
+loop-less c = taken-less (c .before .before .before .before .loop .inv .0) (c .before .before .before .loop-test .taken) (c .before .before .lowest .ensures) (c .without .ensures)
 
 loop-again : tie.Need-loop-again Inv-loop μ-loop
 loop-again c =
-    let i = c .before .before .before .loop .inv in
-    ⊎-elim
-    (λ w.
-    let e = w .2 ∙ w .1 .ensures in
-    (omega arith, rw e (join-lt _ _), rw e (found-row _ _ _ _ (i .2) (sym (c .before .has .ensures) ∙ w .0 .taken))))
-    (λ w. (omega arith, rw (w .1) (i .1), rw (w .1) (found-skip _ _ _ _ (i .2) (sym (c .before .has .ensures) ∙ w .0 .left))))
-    (c .if1 .came)
+    let i = c .before .before .before .before .loop .inv in
+    let some = c .before .before .before .loop-test .taken in
+    let low = c .before .before .lowest .ensures in
+    rw (c .without .ensures, c .before .join .ensures)
+    (without-lt _ _, join-lt _ _, found-row _ _ _ _ _ (i .2) (taken-below (i .0) some low) (taken-has (i .0) some low))
 
 returns : tie.Need-returns Inv-loop μ-loop
 returns c =
     let i = c .before .loop .inv in
-    let end : c .before .loop .u ≡ 32 = omega arith in
-    found-all _ _ _ (i .1) (rw end at (i .2))
+    found-all _ _ _ (i .1) (rw (c .loop-test .left) at (i .2))
 
 pub preceded-spec : {M : Type 1} → statement M
 preceded-spec =
@@ -62,12 +59,12 @@ preceded-spec =
     Inv-loop
     μ-loop
     loop-holds
-    has-requires
+    lowest-requires
     cast-join
     mul-join
     array-read-join
     join-requires
-    add-u
+    without-requires
     loop-less
     loop-again
     returns)
