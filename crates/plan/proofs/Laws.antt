@@ -22,7 +22,7 @@ use Rattle.plan.specs.Parts.{choice, order, subscribed, legal, given, at
 use Rattle.plan.specs.Rules.{typesExist, reversibleInBoth, boundInBoth, addressGiven, setsInChoices, reversibleTwice, ascends, restBlank}
 use Rattle.plan.specs.Sound.{typesSound, sourceSound, targetSound, subscriberSound, sound}
 use Rattle.plan.specs.Find.{used, lookup}
-use Rattle.plan.proofs.Subscribers.{own-at, ascends-at, own-address, own-sets, own-reversible}
+use Rattle.plan.proofs.Subscribers.{own-at, ascending, own-address, own-sets, own-reversible}
 use Rattle.plan.proofs.Lookup.{lookup-at}
 
 same-is : (a b : Bool) → same a b ≡ true → a ≡ b
@@ -190,21 +190,8 @@ module _ (p : Plan) (𝓢 : sound p ≡ true) where
     address-given = own-address (p .types) (at (p .subscribers) i) (own-at (p .types) (p .subscribers) (p .count) subscribers-kept i h)
 
   -- addresses strictly ascend
-  next-above : (i : ℕ) → suc i < p .count → at (p .subscribers) i .address < at (p .subscribers) (suc i) .address
-  unfolding ascends
-  next-above i h =
-      let e : (suc i) - 1 ≡ i = omega arith in
-      rw e at (ltb-true (at (p .subscribers) (suc i - 1) .address) (at (p .subscribers) (suc i) .address)
-      (imp-at (ltb 0 (suc i)) (ltb (at (p .subscribers) (suc i - 1) .address) (at (p .subscribers) (suc i) .address))
-      (ascends-at (p .types) (p .subscribers) (p .count) subscribers-kept (suc i) h) (lt-ltb 0 (suc i) (omega arith))))
-
   pub addresses-ascend : (i j : ℕ) → i < j → j < p .count → at (p .subscribers) i .address < at (p .subscribers) j .address
-  addresses-ascend i zero l h = absurd (not-suc-le-zero l)
-  addresses-ascend i (suc j) l h =
-      ⊎-elim
-      (λ (m : i < j). omega (arith, addresses-ascend i j m (omega arith), next-above j h))
-      (λ (m : j ≤ i). let e : i ≡ j = omega arith in rw e (next-above j h))
-      (split i j)
+  addresses-ascend = ascending (p .types) (p .subscribers) (p .count) subscribers-kept
 
   -- and so are distinct
   pub addresses-distinct : (i j : ℕ) → i < p .count → j < p .count → at (p .subscribers) i .address ≡ at (p .subscribers) j .address → i ≡ j

@@ -75,6 +75,11 @@ module _ (p : Plan) (a : ℕ) where
       let r = found-is i e in
       eqb-true (at (p .subscribers) i .address) a (rw (r .0) at (least-has (used p) (hasAddress p a) (rw (r .0) (found-used i e))))
 
+  -- no place before it has the address
+  pub found-first : (i : ℕ) → lookup p a ≡ At i → (k : ℕ) → k < i → hasAddress p a k ≡ false
+  unfolding firstWith
+  found-first i e k h = least-min (used p) (hasAddress p a) k (rw (found-is i e .0) h)
+
   -- where nothing is found no place in use has the address, unless nobody can have it
   pub nothing-has : given a ≡ true → lookup p a ≡ Nothing → (k : ℕ) → k < used p → hasAddress p a k ≡ false
   unfolding lookup firstWith

@@ -3,11 +3,12 @@ use mathlib.Core.Path.{_≡_, sym, ap, _∙_}
 use mathlib.Core.Bool.{Bool, true, false, _&&_}
 use mathlib.Core.Logic.{_⊎_, inl, inr, ⊎-elim}
 use mathlib.Core.List.{List}
-use Prim.Native.Nat.{ℕ, _+_, _-_, _≤_, _<_}
+use Prim.Native.Nat.{ℕ, zero, suc, _+_, _-_, _≤_, _<_}
+use native.Mathlib.Nat.{not-suc-le-zero}
 use native.Mathlib.Omega.{arith}
 use lib.Dec.{ltb, leb, eqb}
 use lib.ListN.{length}
-use borrow.Author.Tests.{leb-true, eqb-true}
+use borrow.Author.Tests.{leb-true, ltb-true, lt-ltb, eqb-true}
 use Rattle.typeset.specs.Sets.{every, implies}
 use Rattle.typeset.proofs.Bools.{and-left, and-right, imp-at}
 use Rattle.typeset.proofs.Below.{every-at}
@@ -42,6 +43,23 @@ module _ (t : Types) (subs : List Subscriber) (i : ℕ) (e : every i (subscriber
   pub apart-at : numbersApart subs j ≡ true
   unfolding subscriberSound
   apart-at = and-right (ownSound t (at subs j) && ascends subs j) (numbersApart subs j) (every-at i (subscriberSound t subs) e j h)
+
+-- the addresses of the first n subscribers strictly ascend
+module _ (t : Types) (subs : List Subscriber) (n : ℕ) (e : every n (subscriberSound t subs) ≡ true) where
+  next-above : (i : ℕ) → suc i < n → at subs i .address < at subs (suc i) .address
+  unfolding ascends
+  next-above i h =
+      let back : (suc i) - 1 ≡ i = omega arith in
+      rw back at (ltb-true (at subs (suc i - 1) .address) (at subs (suc i) .address)
+      (imp-at (ltb 0 (suc i)) (ltb (at subs (suc i - 1) .address) (at subs (suc i) .address)) (ascends-at t subs n e (suc i) h) (lt-ltb 0 (suc i) (omega arith))))
+
+  pub ascending : (i j : ℕ) → i < j → j < n → at subs i .address < at subs j .address
+  ascending i zero l h = absurd (not-suc-le-zero l)
+  ascending i (suc j) l h =
+      ⊎-elim
+      (λ (m : i < j). omega (arith, ascending i j m (omega arith), next-above j h))
+      (λ (m : j ≤ i). let same : i ≡ j = omega arith in rw same (next-above j h))
+      (split i j)
 
 -- ---- what a subscriber that keeps its own rules has
 module _ (t : Types) (s : Subscriber) (e : ownSound t s ≡ true) where

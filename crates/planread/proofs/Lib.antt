@@ -5,3 +5,5 @@ pub mod Turns
 pub mod Going
 pub mod Exact
 pub mod Said
+pub mod Onward
+pub mod Passing

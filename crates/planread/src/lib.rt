@@ -8,10 +8,13 @@ ghost use lib.ListN.{length, take, drop, replicate};
 ghost use Rattle.plan.specs.Sound.{typesSound, sourceSound, targetSound, ownSound, numberSaid, placeSaid};
 ghost use Rattle.plan.specs.Table.{fits};
 ghost use Rattle.planbytes.specs.Numbers.{number, numbers};
-ghost use Rattle.planread.specs.Reading.{planOf, blankPlan, typesIn, orderIn, subscriberWith, allowed, everLong, header, refused, ended, readFrom, readOf};
+ghost use Rattle.planread.specs.Reading.{noTypes, planOf, blankPlan, typesIn, orderIn, subscriberWith, allowed, everLong, header, refused, ended, readFrom, readOf};
 ghost use Rattle.plan.specs.Parts.{noSubscriber};
 ghost use Rattle.planread.specs.Said.{numberRead, placeRead};
+ghost use Rattle.planread.specs.Scanning.{onward, scanned, unseen, shownEnd};
+ghost use Rattle.plan.specs.declared.Verdict.the-variants.{Sound, Refused};
 use plan::Plan;
+use plan::Seen;
 use plan::Subscriber;
 use plan::Types;
 use plan::Verdict;
@@ -21,6 +24,20 @@ use refusal::Refusal;
 pub struct Reading {
     pub answer: Verdict,
     pub plan: Plan,
+}
+
+// What looking through a file answers: what the plan shows of two addresses; or a refusal, with what a blank plan shows beside it.
+pub struct Sight {
+    pub answer: Verdict,
+    pub seen: Seen,
+}
+
+// The four fixed fields: sound, with what they say, or the refusal of one of them.
+struct Head {
+    answer: Verdict,
+    types: Types,
+    source: [u32; 32],
+    target: [u32; 32],
 }
 
 // ---- numbers, high byte first
@@ -198,25 +215,11 @@ fn header(bytes: &[u8], stage: u8, count: usize, at: usize) -> Verdict
 
 // ---- the file
 
-// What stands in a place that no subscriber has: all zero.
-fn no_subscriber() -> Subscriber
-    ensures { λ r. ⌜ r ≡ noSubscriber ⌝ }
-{
-    Subscriber {
-        kind: 0,
-        address: 0,
-        source: 0,
-        target: 0,
-        boxes: [0u16; 4],
-        count: 0,
-    }
-}
-
 // What stands beside a refusal: a plan in which all is zero.
 fn blank_plan() -> Plan
     ensures { λ r. ⌜ r ≡ blankPlan ⌝ }
 {
-    let empty = no_subscriber();
+    let empty = plan::no_subscriber();
     Plan {
         types: Types {
             existing: 0,
@@ -302,7 +305,7 @@ fn read_subscribers(
     requires { ⌜ (289 ≤ length (now bytes)) × (now taken ≡ replicate 4096 0) ⌝ }
     ensures { λ r. ⌜ r ≡ readFrom 257 4 (planOf types source target (replicate 256 noSubscriber) 0) 289 (drop 289 (now (bytes .entry))) ⌝ }
 {
-    let empty = no_subscriber();
+    let empty = plan::no_subscriber();
     let mut subscribers = [empty; 256];
     let mut count = 0usize;
     let mut last = 0u32;
@@ -343,57 +346,105 @@ fn due(tag: u8, types: Types, source: [u32; 32], target: [u32; 32]) -> bool
     rules::target_sound(types, source, target)
 }
 
+fn no_types() -> Types
+    ensures { λ r. ⌜ r ≡ noTypes ⌝ }
+{
+    Types {
+        existing: 0,
+        bound: 0,
+        reversible: 0,
+        source_choice: 0,
+        target_choice: 0,
+    }
+}
+
+// A refusal of a fixed field; what stands beside it does not count.
+fn not_fixed(r: Refusal) -> Head
+    ensures { λ x. ⌜ x .answer ≡ Refused r ⌝ }
+{
+    Head {
+        answer: Verdict::Refused(r),
+        types: no_types(),
+        source: [0u32; 32],
+        target: [0u32; 32],
+    }
+}
+
 // From the target order on.
-fn read_target(bytes: &[u8], types: Types, source: [u32; 32]) -> Reading
+fn fixed_target(bytes: &[u8], types: Types, source: [u32; 32]) -> Head
     requires { ⌜ 158 ≤ length (now bytes) ⌝ }
-    ensures { λ r. ⌜ r ≡ readFrom 258 3 (planOf types source (replicate 32 0) (replicate 256 noSubscriber) 0) 158 (drop 158 (now (bytes .entry))) ⌝ }
+    ensures { λ r. ⌜ (onward (r .answer) (r .types) (r .source) (r .target) (now (bytes .entry)) ≡ readFrom 258 3 (planOf types source (replicate 32 0) (replicate 256 noSubscriber) 0) 158 (drop 158 (now (bytes .entry))))
+        × (r .answer ≡ Sound → 289 ≤ length (now (bytes .entry))) ⌝ }
 {
     let verdict = header(bytes, 3, 0, 158);
     match verdict {
-        Verdict::Refused(r) => refused(r),
+        Verdict::Refused(r) => not_fixed(r),
         Verdict::Sound => {
             let target = order_at(bytes, 161);
             if !due(4, types, source, target) {
-                return refused(Refusal::RuleBroken(158));
+                return not_fixed(Refusal::RuleBroken(158));
             }
-            let mut taken = [0u32; 4096];
-            read_subscribers(bytes, types, source, target, &mut taken)
+            Head {
+                answer: Verdict::Sound,
+                types,
+                source,
+                target,
+            }
         }
     }
 }
 
 // From the source order on.
-fn read_source(bytes: &[u8], types: Types) -> Reading
+fn fixed_source(bytes: &[u8], types: Types) -> Head
     requires { ⌜ 27 ≤ length (now bytes) ⌝ }
-    ensures { λ r. ⌜ r ≡ readFrom 259 2 (planOf types (replicate 32 0) (replicate 32 0) (replicate 256 noSubscriber) 0) 27 (drop 27 (now (bytes .entry))) ⌝ }
+    ensures { λ r. ⌜ (onward (r .answer) (r .types) (r .source) (r .target) (now (bytes .entry)) ≡ readFrom 259 2 (planOf types (replicate 32 0) (replicate 32 0) (replicate 256 noSubscriber) 0) 27 (drop 27 (now (bytes .entry))))
+        × (r .answer ≡ Sound → 289 ≤ length (now (bytes .entry))) ⌝ }
 {
     let verdict = header(bytes, 2, 0, 27);
     match verdict {
-        Verdict::Refused(r) => refused(r),
+        Verdict::Refused(r) => not_fixed(r),
         Verdict::Sound => {
             let source = order_at(bytes, 30);
             if !due(3, types, source, [0u32; 32]) {
-                return refused(Refusal::RuleBroken(27));
+                return not_fixed(Refusal::RuleBroken(27));
             }
-            read_target(bytes, types, source)
+            fixed_target(bytes, types, source)
         }
     }
 }
 
 // From the five sets on.
-fn read_types(bytes: &[u8]) -> Reading
+fn fixed_types(bytes: &[u8]) -> Head
     requires { ⌜ 4 ≤ length (now bytes) ⌝ }
-    ensures { λ r. ⌜ r ≡ readFrom 260 1 blankPlan 4 (drop 4 (now (bytes .entry))) ⌝ }
+    ensures { λ r. ⌜ (onward (r .answer) (r .types) (r .source) (r .target) (now (bytes .entry)) ≡ readFrom 260 1 blankPlan 4 (drop 4 (now (bytes .entry))))
+        × (r .answer ≡ Sound → 289 ≤ length (now (bytes .entry))) ⌝ }
 {
     let verdict = header(bytes, 1, 0, 4);
     match verdict {
-        Verdict::Refused(r) => refused(r),
+        Verdict::Refused(r) => not_fixed(r),
         Verdict::Sound => {
             let types = types_at(bytes, 7);
             if !due(2, types, [0u32; 32], [0u32; 32]) {
-                return refused(Refusal::RuleBroken(4));
+                return not_fixed(Refusal::RuleBroken(4));
             }
-            read_source(bytes, types)
+            fixed_source(bytes, types)
+        }
+    }
+}
+
+// The four fixed fields of any bytes: reading on from them is reading the file.
+fn fixed(bytes: &[u8]) -> Head
+    ensures { λ r. ⌜ (onward (r .answer) (r .types) (r .source) (r .target) (now (bytes .entry)) ≡ readOf (now (bytes .entry)))
+        × (r .answer ≡ Sound → 289 ≤ length (now (bytes .entry))) ⌝ }
+{
+    let verdict = header(bytes, 0, 0, 0);
+    match verdict {
+        Verdict::Refused(r) => not_fixed(r),
+        Verdict::Sound => {
+            if bytes[3] != 1 {
+                return not_fixed(Refusal::RuleBroken(0));
+            }
+            fixed_types(bytes)
         }
     }
 }
@@ -403,14 +454,127 @@ pub fn read(bytes: &[u8]) -> Reading
     ensures { λ r. ⌜ r ≡ readOf (now (bytes .entry)) ⌝ }
     ensures numbered { λ r. ⌜ (numberSaid (r .answer) ≡ numberRead (now (bytes .entry))) × (placeSaid (r .answer) ≡ placeRead (now (bytes .entry))) ⌝ }
 {
-    let verdict = header(bytes, 0, 0, 0);
+    let f = fixed(bytes);
+    let verdict = f.answer;
+    let types = f.types;
+    let source = f.source;
+    let target = f.target;
     match verdict {
         Verdict::Refused(r) => refused(r),
         Verdict::Sound => {
-            if bytes[3] != 1 {
-                return refused(Refusal::RuleBroken(0));
-            }
-            read_types(bytes)
+            let mut taken = [0u32; 4096];
+            read_subscribers(bytes, types, source, target, &mut taken)
+        }
+    }
+}
+
+// ---- what the plan of a file shows, without the plan
+
+fn unseen(r: Refusal) -> Sight
+    ensures { λ x. ⌜ x ≡ unseen r ⌝ }
+{
+    let types = no_types();
+    let nobody = plan::no_subscriber();
+    let seen = Seen {
+        types,
+        source_order: [0u32; 32],
+        target_order: [0u32; 32],
+        first: nobody,
+        second: nobody,
+    };
+    Sight {
+        answer: Verdict::Refused(r),
+        seen,
+    }
+}
+
+// What comes after the end field, as in `finish`.
+fn scan_end(
+    bytes: &[u8],
+    at: usize,
+    types: Types,
+    source: [u32; 32],
+    target: [u32; 32],
+    first: Subscriber,
+    second: Subscriber,
+) -> Sight
+    ensures { λ r. ⌜ r ≡ shownEnd types source target first second at (drop at (now (bytes .entry))) ⌝ }
+{
+    if bytes.len() <= at {
+        let seen = Seen {
+            types,
+            source_order: source,
+            target_order: target,
+            first,
+            second,
+        };
+        return Sight {
+            answer: Verdict::Sound,
+            seen,
+        };
+    }
+    unseen(Refusal::WrongEnd(at))
+}
+
+// The fields after the four fixed ones, as in `read_subscribers`; of the subscribers only those of the two addresses are kept.
+fn scan_subscribers(
+    bytes: &[u8],
+    types: Types,
+    source: [u32; 32],
+    target: [u32; 32],
+    first: u32,
+    second: u32,
+    taken: &mut [u32; 4096],
+) -> Sight
+    requires { ⌜ (289 ≤ length (now bytes)) × (now taken ≡ replicate 4096 0) ⌝ }
+    ensures { λ r. ⌜ r ≡ scanned first second (readFrom 257 4 (planOf types source target (replicate 256 noSubscriber) 0) 289 (drop 289 (now (bytes .entry)))) ⌝ }
+{
+    let mut one = plan::no_subscriber();
+    let mut other = plan::no_subscriber();
+    let mut count = 0usize;
+    let mut last = 0u32;
+    let mut at = 289usize;
+    loop {
+        let verdict = header(bytes, 4, count, at);
+        match verdict {
+            Verdict::Refused(r) => return unseen(r),
+            Verdict::Sound => {}
+        }
+        if bytes[at] == 127 {
+            return scan_end(bytes, at + 3, types, source, target, one, other);
+        }
+        let n = two(bytes, at + 1) as usize;
+        let s = subscriber_at(bytes, at + 3, (n - 13) / 2);
+        if !keeps(types, s, last, taken) {
+            return unseen(Refusal::RuleBroken(at));
+        }
+        soundness::claim(taken, s);
+        if s.address == first {
+            one = s;
+        }
+        if s.address == second {
+            other = s;
+        }
+        last = s.address;
+        count += 1;
+        at = at + (3 + n);
+    }
+}
+
+// What the plan shows of two addresses whose file any bytes are; or the refusal that reading them has.
+pub fn scan(bytes: &[u8], first: u32, second: u32) -> Sight
+    ensures { λ r. ⌜ r ≡ scanned first second (readOf (now (bytes .entry))) ⌝ }
+{
+    let f = fixed(bytes);
+    let verdict = f.answer;
+    let types = f.types;
+    let source = f.source;
+    let target = f.target;
+    match verdict {
+        Verdict::Refused(r) => unseen(r),
+        Verdict::Sound => {
+            let mut taken = [0u32; 4096];
+            scan_subscribers(bytes, types, source, target, first, second, &mut taken)
         }
     }
 }
