@@ -1,4 +1,5 @@
 pub mod Slots
 pub mod Blanks
+pub mod Halves
 pub mod RoundTrip
 pub mod Exact

@@ -6,7 +6,7 @@ ghost use lib.ListN.{length, take, drop};
 ghost use lib.Seq.{sets};
 ghost use Rattle.planbytes.specs.Numbers.{high, number};
 ghost use Rattle.call.specs.Protocol.{isFree, cleared};
-ghost use Rattle.callbytes.specs.Parts.{Blank};
+ghost use Rattle.callbytes.specs.Parts.{Blank, speaks, someNumber};
 ghost use Rattle.callbytes.specs.Codec.{slotBytes, slotsBytes, callBytes, slotAt, slotsFrom, callIn, callAt, putAt, Fits};
 use call::Call;
 use call::Queue;
@@ -26,16 +26,40 @@ fn put_slot(room: &mut [u8; 102], at: usize, s: Slot)
     room[at + 2] = signalbytes::signal_code(x);
 }
 
-// The places of a queue, into a room that is blank there: most places hold nothing, and a place that holds nothing is 0, so only the others are written.
+// Whether a place with this signal holds anything: all but upack, whose bytes are 0.
+fn speaks(x: Signal) -> bool
+    ensures { λ r. ⌜ r ≡ speaks x ⌝ }
+{
+    match x {
+        Signal::Upack => false,
+        Signal::Teardown => true,
+        Signal::Downack => true,
+        Signal::Ordinary(_, _) => true,
+    }
+}
+
+// The places of a queue, into a room that is blank there: most places hold nothing, and a place that holds nothing is 0, so only the others are written, and a half of the places in which nothing stands is passed over.
 fn put_slots(room: &mut [u8; 102], at: usize, slots: [Slot; 16])
     requires { ⌜ (at + 48 ≤ 102) × Blank (now room) at (at + 48) ⌝ }
     ensures { λ r. ⌜ (now (room .exit) ≡ sets (now (room .entry)) at (slotsBytes slots)) × (length slots ≡ 16) ⌝ }
 {
-    for i in 0usize..16usize {
-        let s = slots[i];
-        let x = s.signal;
-        if signalbytes::signal_number(x) != 0 {
-            put_slot(room, at + 3 * i, s);
+    for q in 0usize..2usize {
+        let mut some = false;
+        for i in 0usize..8usize {
+            let s = slots[8 * q + i];
+            let x = s.signal;
+            if speaks(x) {
+                some = true;
+            }
+        }
+        if some {
+            for i in 8 * q..8 * q + 8 {
+                let s = slots[i];
+                let x = s.signal;
+                if speaks(x) {
+                    put_slot(room, at + 3 * i, s);
+                }
+            }
         }
     }
 }
@@ -104,7 +128,21 @@ fn slot_at(b: &[u8], at: usize) -> Slot
     }
 }
 
-// The places of a queue. Most hold nothing, which is the number 0 and what the array begins with, so only the others are read further.
+// Whether one of the eight places from a place on has a number that is not 0.
+fn some_number(b: &[u8], at: usize) -> bool
+    requires { ⌜ at + 24 ≤ length (now b) ⌝ }
+    ensures { λ r. ⌜ r ≡ someNumber (now (b .entry)) at ⌝ }
+{
+    let mut some = false;
+    for i in 0usize..8usize {
+        if b[at + 3 * i] != 0 {
+            some = true;
+        }
+    }
+    some
+}
+
+// The places of a queue. Most hold nothing, which is the number 0 and what the array begins with, so only the others are read further, and a half of the places in which nothing stands is passed over.
 fn slots_at(b: &[u8], at: usize) -> [Slot; 16]
     requires { ⌜ at + 48 ≤ length (now b) ⌝ }
     ensures { λ r. ⌜ r ≡ slotsFrom 16 (now (b .entry)) at ⌝ }
@@ -113,9 +151,13 @@ fn slots_at(b: &[u8], at: usize) -> [Slot; 16]
         signal: Signal::Upack,
     };
     let mut slots = [blank; 16];
-    for i in 0usize..16usize {
-        if b[at + 3 * i] != 0 {
-            slots[i] = slot_at(b, at + 3 * i);
+    for q in 0usize..2usize {
+        if some_number(b, at + 24 * q) {
+            for i in 8 * q..8 * q + 8 {
+                if b[at + 3 * i] != 0 {
+                    slots[i] = slot_at(b, at + 3 * i);
+                }
+            }
         }
     }
     slots

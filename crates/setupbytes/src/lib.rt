@@ -294,16 +294,18 @@ fn fields_in(b: &[u8]) -> Setup
     }
 }
 
+// It goes on past a difference: a loop with one way out is compiled to few steps of many bytes each.
 fn same(a: &[u8], b: &[u8]) -> bool
     requires { ⌜ (110 ≤ length (now a)) × (110 ≤ length (now b)) ⌝ }
     ensures { λ r. ⌜ r ≡ same (now (a .entry)) (now (b .entry)) ⌝ }
 {
+    let mut all = true;
     for i in 0usize..110usize {
         if a[i] != b[i] {
-            return false;
+            all = false;
         }
     }
-    true
+    all
 }
 
 // The setup that some bytes are; the blank setup, which is not well formed, for bytes that are no setup's.
