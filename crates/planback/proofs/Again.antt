@@ -1,13 +1,14 @@
 -- A plan that is written and read again: what the two functions' answers say together. Assumes nothing.
 use mathlib.Core.Path.{_≡_, refl, sym, ap, _∙_}
 use mathlib.Core.Bool.{Bool, true, false, false≢true}
-use mathlib.Core.List.{List, []}
-use Prim.Native.Nat.{ℕ, _≤_}
+use mathlib.Core.List.{List, [], _++_}
+use Prim.Native.Nat.{ℕ, _≤_, _<_}
 use native.Mathlib.Omega.{arith}
 use lib.Dec.{leb}
 use lib.ListN.{length, take, drop, length-append}
-use borrow.Author.Tests.{leb-true}
+use borrow.Author.Tests.{leb-true, le-leb, lt-leb}
 use Rattle.refusal.specs.declared.Refusal.{Refusal}
+use Rattle.refusal.specs.declared.Refusal.the-variants.{RoomTooShort}
 use Rattle.plan.specs.declared.Plan.{Plan}
 use Rattle.plan.specs.declared.Verdict.{Verdict}
 use Rattle.plan.specs.declared.Verdict.the-variants.{Sound, Refused}
@@ -19,8 +20,9 @@ use Rattle.planwrite.specs.declared.Written.{Written}
 use Rattle.planwrite.specs.declared.Written.the-variants as written-variants
 use Rattle.planwrite.specs.Writing.{answerOf, written, writtenBy, roomAfter, roomAfterBy}
 use Rattle.planfile.specs.Typed.{Typed}
-use Rattle.planback.specs.Back.{comesBack}
-use Rattle.planfile.proofs.Theorems.{write-then-read}
+use Rattle.planbytes.specs.Numbers.{Below}
+use Rattle.planback.specs.Back.{comesBack, rewrites, roomRewritten}
+use Rattle.planfile.proofs.Theorems.{write-then-read, written-read, read-sound}
 
 abbrev isBytes : Written → Bool
 isBytes (written-variants.Bytes n) = true
@@ -66,3 +68,30 @@ beside-refusal r {x} e = let blank : x .plan ≡ blankPlan = ap (λ (y : Reading
 -- a reading whose answer is sound is of its plan
 pub as-accepted : (r : Reading) → r .answer ≡ Sound → r ≡ accepted (r .plan)
 as-accepted r e = ap (λ (v : Verdict). record { answer = v; plan = r .plan }) e
+
+-- ---- a file that is read and written again: its own bytes
+
+module _ (file room : List ℕ) {v : Verdict} (q : v ≡ readOf file .answer) where
+  pub again-refused : {r : Refusal} → v ≡ Refused r → (rewrites (readOf file) room ≡ written-variants.Refused r) × (roomRewritten (readOf file) room ≡ room)
+  unfolding rewrites roomRewritten
+  again-refused e = (rw (sym q ∙ e), rw (sym q ∙ e))
+
+  module _ (b : Below 256 file) (e : v ≡ Sound) where
+    read-plan : readOf file ≡ accepted (readOf file .plan)
+    read-plan = as-accepted (readOf file) (sym q ∙ e)
+
+    kept-all : sound (readOf file .plan) ≡ true
+    kept-all = read-sound file b (readOf file .plan) read-plan
+
+    own-bytes : bytesOf (readOf file .plan) ≡ file
+    own-bytes = written-read file b (readOf file .plan) read-plan
+
+    pub again-short : length room < length file
+        → (rewrites (readOf file) room ≡ written-variants.Refused (RoomTooShort 0)) × (roomRewritten (readOf file) room ≡ room)
+    unfolding rewrites roomRewritten writtenBy roomAfterBy
+    again-short h = (rw (sym q ∙ e, kept-all, own-bytes, lt-leb (length file) (length room) h), rw (sym q ∙ e, kept-all, own-bytes, lt-leb (length file) (length room) h))
+
+    pub again-fits : length file ≤ length room
+        → (rewrites (readOf file) room ≡ written-variants.Bytes (length file)) × (roomRewritten (readOf file) room ≡ file ++ drop (length file) room)
+    unfolding rewrites roomRewritten writtenBy roomAfterBy
+    again-fits h = (rw (sym q ∙ e, kept-all, own-bytes, le-leb (length file) (length room) h), rw (sym q ∙ e, kept-all, own-bytes, le-leb (length file) (length room) h))

@@ -10,11 +10,13 @@ ghost use Rattle.planbytes.specs.Numbers.{Below};
 ghost use Rattle.planfile.specs.Typed.{TypedSubscriber, AllTyped, Typed};
 ghost use Rattle.planread.specs.Reading.{readOf, refused};
 ghost use Rattle.planwrite.specs.Writing.{written, roomAfter};
-ghost use Rattle.planback.specs.Back.{comesBack};
+ghost use Rattle.planread.specs.Scanning.{scanned};
+ghost use Rattle.planback.specs.Back.{comesBack, rewrites, roomRewritten};
 use plan::Plan;
 use plan::Subscriber;
 use plan::Verdict;
 use planread::Reading;
+use planread::Sight;
 use planwrite::Written;
 use refusal::Refusal;
 
@@ -85,7 +87,7 @@ pub fn held(plan: Plan)
 }
 
 // Any bytes that a program holds. The walk only shows it; compiled, nothing is left of it.
-fn bytes(file: &[u8])
+fn all_bytes(file: &[u8])
     ensures { λ r. ⌜ Below 256 (now (file .entry)) ⌝ }
 {
     for i in 0usize..file.len() {
@@ -97,8 +99,34 @@ fn bytes(file: &[u8])
 pub fn read(file: &[u8]) -> Reading
     ensures { λ r. ⌜ (r ≡ readOf (now (file .entry))) × (r .answer ≡ Sound → sound (r .plan) ≡ true) ⌝ }
 {
-    bytes(file);
+    all_bytes(file);
     planread::read(file)
+}
+
+// Any bytes looked through for two addresses, with the same promise of the plan whose file they are.
+pub fn scan(file: &[u8], first: u32, second: u32) -> Sight
+    ensures { λ r. ⌜ (r ≡ scanned first second (readOf (now (file .entry)))) × (r .answer ≡ Sound → sound (readOf (now (file .entry)) .plan) ≡ true) ⌝ }
+{
+    all_bytes(file);
+    planread::scan(file, first, second)
+}
+
+// The plan of a file written into the room: what is accepted is the file of its plan, so that its bytes are written as they are.
+pub fn rewrite(file: &[u8], room: &mut [u8]) -> Written
+    ensures { λ r. ⌜ (r ≡ rewrites (readOf (now (file .entry))) (now (room .entry))) × (now (room .exit) ≡ roomRewritten (readOf (now (file .entry))) (now (room .entry))) ⌝ }
+{
+    all_bytes(file);
+    let sight = planread::scan(file, 0, 0);
+    let verdict = sight.answer;
+    match verdict {
+        Verdict::Refused(r) => Written::Refused(r),
+        Verdict::Sound => {
+            if room.len() < file.len() {
+                return Written::Refused(Refusal::RoomTooShort(0));
+            }
+            Written::Bytes(bytes::copy(file, room))
+        }
+    }
 }
 
 // The first n bytes of a file, read.

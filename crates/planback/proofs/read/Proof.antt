@@ -9,8 +9,8 @@ use Rattle.planback.proofs.Again.{as-accepted}
 use Rattle.planback.proofs.read.Statement.{statement}
 use Rattle.planback.proofs.read.Tie as tie
 
-bytes-requires : tie.Need-bytes-requires
-bytes-requires c κs = search needs
+all-bytes-requires : tie.Need-all-bytes-requires
+all-bytes-requires c κs = search needs
 
 read-requires : tie.Need-read-requires
 read-requires c κs = search needs
@@ -18,8 +18,8 @@ read-requires c κs = search needs
 returns : tie.Need-returns
 returns c = (
   c .read .ensures .0,
-  λ e. read-sound (c .before .before .before .args .file .now) (c .before .bytes .ensures) (c .read .result .plan) (sym (c .read .ensures .0) ∙ as-accepted (c .read .result) e),
+  λ e. read-sound (c .before .before .before .args .file .now) (c .before .all-bytes .ensures) (c .read .result .plan) (sym (c .read .ensures .0) ∙ as-accepted (c .read .result) e),
 )
 
 pub read-spec : {M : Type 1} → statement M
-read-spec = tie.close (tie.spec bytes-requires read-requires returns)
+read-spec = tie.close (tie.spec all-bytes-requires read-requires returns)

@@ -1,4 +1,4 @@
--- `planback::bytes` meets its contract. Assumes nothing.
+-- `planback::all_bytes` meets its contract. Assumes nothing.
 use mathlib.Core.Path.{_≡_}
 use Prim.Native.Nat.{_+_, _-_, _<_, _≤_}
 use native.Mathlib.Omega.{arith}
@@ -6,8 +6,8 @@ use borrow.Author.Needs.{needs}
 use lib.ListN.{length, take}
 use Rattle.planbytes.specs.Numbers.{Below}
 use Rattle.planback.proofs.Ranges.{below-none, below-more, below-all}
-use Rattle.planback.proofs.bytes.Statement.{statement}
-use Rattle.planback.proofs.bytes.Tie as tie
+use Rattle.planback.proofs.all_bytes.Statement.{statement}
+use Rattle.planback.proofs.all_bytes.Tie as tie
 
 abbrev Inv-loop : tie.InvT-loop
 Inv-loop file i₀ i-end i = (i ≤ i-end) × (i-end ≡ length file) × Below 256 (take i file)
@@ -36,8 +36,8 @@ loop-again c = (search needs, search needs, below-more 256 (c .before .before .b
 returns : tie.Need-returns Inv-loop μ-loop
 returns c = below-all 256 (c .before .before .before .args .file .now) (c .before .loop .i) (omega arith) (c .before .loop .inv .2)
 
-pub bytes-spec : {M : Type 1} → statement M
-bytes-spec =
+pub all-bytes-spec : {M : Type 1} → statement M
+all-bytes-spec =
     tie.close
     (tie.spec
     Inv-loop
