@@ -13,7 +13,7 @@ use Rattle.plan.specs.declared.Found.{Found}
 use Rattle.plan.specs.declared.Found.the-variants.{At, Nothing}
 use Rattle.plan.specs.Parts.{at, box}
 use Rattle.plan.specs.Sound.{sound}
-use Rattle.plan.specs.Find.{used, lookup}
+use Rattle.plan.specs.Find.{used, lookup, holderOf, holderAt}
 use Rattle.plan.proofs.Lookup.{found-used}
 use Rattle.plan.proofs.Holders.{line-one, resource-some, mobile-none}
 use Rattle.routing.specs.declared.Callee.{Callee}
@@ -57,6 +57,16 @@ interface-no-feature p a = found-interface p (lookup p a) a .no-feature
 pub interface-address : (p : Plan) (a : ℕ) → addressOf (interfaceAt p a) ≡ a
 unfolding interfaceAt
 interface-address p a = found-interface p (lookup p a) a .address
+
+-- it is the first listed box of the subscriber whom the plan shows for the address; nobody lists one
+shown-of : (p : Plan) (f : Found) (a : ℕ) → foundBox p f a ≡ firstBox (holderOf p f) a
+unfolding foundBox firstBox
+shown-of p (At i) a = refl
+shown-of p Nothing a = refl
+
+pub interface-shown : (p : Plan) (a : ℕ) {s : Subscriber} → holderAt p a ≡ s → interfaceAt p a ≡ firstBox s a
+unfolding interfaceAt holderAt
+interface-shown p a e = shown-of p (lookup p a) a ∙ ap (λ (s : Subscriber). firstBox s a) e
 
 -- ---- who has which
 

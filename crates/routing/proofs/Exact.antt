@@ -8,13 +8,17 @@ use denote.Ref.{RefT}
 use denote.Triple.Clauses.{AtExit}
 use borrow.Fn.Kinds.{endedOf}
 use Rattle.plan.specs.declared.Plan.{Plan}
+use Rattle.plan.specs.declared.Seen.{Seen}
+use Rattle.plan.specs.Find.{seen}
 use Rattle.setup.specs.declared.Setup.{Setup}
 use Rattle.routing.specs.declared.Later.{Later}
 use Rattle.routing.specs.declared.Answer.{Answer}
 use lib.ListN.{length}
 use Rattle.routing.specs.declared.Later.the-variants.{Nothing}
+use Rattle.routing.specs.Steps.{target1}
 use Rattle.routing.specs.Routing.{numberOfOutcome, placeOfOutcome, numberGiven, placeGiven}
 use Rattle.routing.proofs.Numbered.{said}
+use Rattle.routing.proofs.extracted.Reads as extracted
 use Rattle.routing.proofs.route.Reads as route
 use Rattle.routing.proofs.route.Kinds as route-kinds
 use Rattle.routing.proofs.route_unless.Reads as route-unless
@@ -22,6 +26,11 @@ use Rattle.routing.proofs.route_unless.Kinds as route-unless-kinds
 use mathlib.Core.Bool.{Bool}
 use Rattle.routing.proofs.route_tested.Reads as route-tested
 use Rattle.routing.proofs.route_tested.Kinds as route-tested-kinds
+use Rattle.routing.proofs.route_seen.Reads as route-seen
+use Rattle.routing.proofs.route_seen.Kinds as route-seen-kinds
+
+pub extracted-exact : (out : Setup) (r s : ℕ) → extracted.Post tt (out, tt) r (out, tt) → extracted.Post tt (out, tt) s (out, tt) → r ≡ s
+extracted-exact out r s p q = p ∙ sym q
 
 pub route-exact : (κs : Lfts 2) (plan : Plan) (out : Setup) (source target : RefT (List ℕ)) (end end′ : AtExit (endedOf 2 route-kinds.ps route-kinds.r) κs) (r s : Answer)
     → route.Post κs (plan, (out, (source, (target, tt)))) r end → route.Post κs (plan, (out, (source, (target, tt)))) s end′
@@ -51,3 +60,13 @@ pub route-tested-exact : (κs : Lfts 2) (kept : Bool) (plan : Plan) (out : Setup
     → route-tested.Post κs (kept, (plan, (out, (later, (source, (target, tt)))))) r end → route-tested.Post κs (kept, (plan, (out, (later, (source, (target, tt)))))) s end′
     → (r ≡ s) × (end .1 .1 .1 .1 .0 .now ≡ end′ .1 .1 .1 .1 .0 .now) × (end .1 .1 .1 .1 .1 .0 .now ≡ end′ .1 .1 .1 .1 .1 .0 .now)
 route-tested-exact κs kept plan out later source target end end′ r s p q = (p .0 ∙ sym (q .0), p .1 ∙ sym (q .1), p .2 ∙ sym (q .2))
+
+-- by what a plan shows: where some plan shows it
+pub route-seen-exact : (κs : Lfts 2) (kept : Bool) (v : Seen) (out : Setup) (later : Later) (source target : RefT (List ℕ)) (end end′ : AtExit (endedOf 2 route-seen-kinds.ps route-seen-kinds.r) κs) (r s : Answer)
+    → route-seen.Post κs (kept, (v, (out, (later, (source, (target, tt)))))) r end → route-seen.Post κs (kept, (v, (out, (later, (source, (target, tt)))))) s end′
+    → (plan : Plan) → seen plan (out .source) (target1 out) ≡ v
+    → (r ≡ s) × (end .1 .1 .1 .1 .0 .now ≡ end′ .1 .1 .1 .1 .0 .now) × (end .1 .1 .1 .1 .1 .0 .now ≡ end′ .1 .1 .1 .1 .1 .0 .now)
+route-seen-exact κs kept v out later source target end end′ r s p q plan shows =
+    let of-p = p plan shows in
+    let of-q = q plan shows in
+    (of-p .0 ∙ sym (of-q .0), of-p .1 ∙ sym (of-q .1), of-p .2 ∙ sym (of-q .2))

@@ -1,5 +1,6 @@
 pub mod Parts
 pub mod Zoned
+pub mod Shown
 pub mod Chosen
 pub mod Boxes
 pub mod Properties

@@ -36,7 +36,7 @@ use Rattle.routing.specs.declared.Outcome.the-variants.{Routed, Refused}
 use Rattle.routing.specs.declared.Answer.{Answer}
 use Rattle.routing.specs.Steps.{target1, suffixAfter, suffix, expanded, zone2, route2, exhausted, region3, route3, outer3, regionOf, routeOf, calleeOf, receivedOf, leftOf}
 use Rattle.routing.specs.Routing.{unless, roomy, settledBy, ended, outcomeBy, refusedWith, answered, answerBy, sourceList, targetList}
-use Rattle.routing.specs.Places.{listIn, zoneIn, suffixBegins, begins, delivered, advanced}
+use Rattle.routing.specs.Places.{listIn, zoneIn, suffixBegins, begins, delivered, advanced, settledIn}
 use Rattle.routing.proofs.Parts.{stored-front}
 
 -- ---- the target
@@ -57,18 +57,24 @@ abbrev refuses : Later → Bool
 refuses Nothing = false
 refuses (Refuse r) = true
 
+-- every test that can refuse was passed
+pub all-passed : (kept fine room : Bool) (later : Later) → unless kept (RuleBroken 0) (unless fine Malformed (unless room ListTooShort later)) ≡ Nothing
+    → (kept ≡ true) × (fine ≡ true) × (room ≡ true) × (later ≡ Nothing)
+all-passed true true true later e = (refl, refl, refl, e)
+all-passed true true false later e = absurd (false≢true (sym (ap refuses e)))
+all-passed true false room later e = absurd (false≢true (sym (ap refuses e)))
+all-passed false fine room later e = absurd (false≢true (sym (ap refuses e)))
+
 pub settled-passed : (kept : Bool) (p : Plan) (out : Setup) (later : Later) (n m : ℕ) → settledBy kept p out later n m ≡ Nothing → Passed kept p out n m later
 unfolding settledBy
 settled-passed kept p out later n m e =
-    ⊎-elim (λ (a : kept ≡ true).
-    ⊎-elim (λ (b : wellFormed p out ≡ true).
-    ⊎-elim (λ (d : roomy n m ≡ true). record { sound = a; well-formed = b; room = d; nothing = rw (a, b, d) at e })
-    (λ (d : roomy n m ≡ false). absurd (false≢true (sym (ap refuses (rw (a, b, d) at e)))))
-    (yes-or-no (roomy n m)))
-    (λ (b : wellFormed p out ≡ false). absurd (false≢true (sym (ap refuses (rw (a, b) at e)))))
-    (yes-or-no (wellFormed p out)))
-    (λ (a : kept ≡ false). absurd (false≢true (sym (ap refuses (rw a at e)))))
-    (yes-or-no kept)
+    let passed = all-passed kept (wellFormed p out) (roomy n m) later e in
+    record { sound = passed .0; well-formed = passed .1; room = passed .2; nothing = passed .3 }
+
+-- there is room, whoever has the plan
+pub settled-room : (kept : Bool) (zone : List ℕ) (reversible : ℕ) (out : Setup) (later : Later) (n m : ℕ) → settledIn kept zone reversible out later n m ≡ Nothing → roomy n m ≡ true
+unfolding settledIn
+settled-room kept zone reversible out later n m e = all-passed kept (faultless (faultIn zone reversible out)) (roomy n m) later e .2
 
 -- a refusal is one of routing's own three, or the caller's
 refusalIn : Later → Refusal → Refusal
@@ -129,6 +135,12 @@ pub well-formed-zones : (p : Plan) (out : Setup) (zs zt : Zone) → listOf zs �
 unfolding wellFormed
 well-formed-zones p out zs zt s t =
     ap faultless (fault-in p out (listOf (zoneIn (out .region) zs zt)) (λ ne. zone-is p out zs zt s t ∙ zone-routed p out ne))
+
+-- what is settled in the zones of a plan, by that plan
+pub settled-zones : (kept : Bool) (p : Plan) (out : Setup) (later : Later) (n m : ℕ) (zs zt : Zone) → listOf zs ≡ zoneAt p Source (out .source) → listOf zt ≡ zoneAt p Target (target1 out)
+    → settledIn kept (listOf (zoneIn (out .region) zs zt)) (p .types .reversible) out later n m ≡ settledBy kept p out later n m
+unfolding settledIn settledBy
+settled-zones kept p out later n m zs zt s t = rw (well-formed-zones p out zs zt s t)
 
 -- ---- step 2
 

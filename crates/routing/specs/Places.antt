@@ -1,8 +1,10 @@
 -- Where the route lies in the two lent lists: what is left of it is an end part of the zone that the region chooses. The parts of the program that work on the lists promise these;
 -- that they are the steps of routing is proved (proofs/Parts.antt). Assumes nothing.
 use Prim.Native.Nat.{ℕ, _-_}
+use mathlib.Core.Bool.{Bool}
 use mathlib.Core.List.{List}
 use lib.ListN.{length, drop}
+use Rattle.refusal.specs.declared.Refusal.the-variants.{RuleBroken, Malformed, ListTooShort}
 use Rattle.plan.specs.declared.Region.{Region}
 use Rattle.plan.specs.declared.Region.the-variants.{Source, Target}
 use Rattle.plan.specs.declared.Plan.{Plan}
@@ -13,10 +15,12 @@ use Rattle.setup.specs.declared.Placing.{Placing}
 use Rattle.setup.specs.declared.Placing.the-variants.{NoPlacing, PlacedBy}
 use Rattle.setup.specs.declared.Outer.{Outer}
 use Rattle.setup.specs.declared.Setup.{Setup}
+use Rattle.setup.specs.Setups.{faultIn, faultless}
+use Rattle.routing.specs.declared.Later.{Later}
 use Rattle.routing.specs.declared.Outcome.the-variants.{Routed}
 use Rattle.routing.specs.declared.Answer.{Answer}
 use Rattle.routing.specs.Steps.{before, tail, region3, route3, outer3, callee4, received4}
-use Rattle.routing.specs.Routing.{answered}
+use Rattle.routing.specs.Routing.{unless, roomy, answered}
 
 -- of two lists, and of two zones as the program holds them, the one of the region
 abbrev pub listIn : Region → List ℕ → List ℕ → List ℕ
@@ -45,3 +49,10 @@ delivered p out target r outer rest = answered (Routed (callee4 p (out .source) 
 unfoldable pub advanced : Plan → Setup → ℕ → List ℕ → List ℕ → Answer
 advanced p out target rest targetZone =
     delivered p out target (region3 (out .region) rest) (outer3 (out .region) rest (out .outer)) (route3 (out .region) rest targetZone)
+
+-- what is settled before them, by the zone in which the setup is expanded and the reversible types: whoever asks need not have the plan
+unfoldable pub settledIn : Bool → List ℕ → ℕ → Setup → Later → ℕ → ℕ → Later
+settledIn kept zone reversible out later sourceRoom targetRoom =
+    unless kept (RuleBroken 0)
+    (unless (faultless (faultIn zone reversible out)) Malformed
+    (unless (roomy sourceRoom targetRoom) ListTooShort later))

@@ -3,20 +3,20 @@ ghost use mathlib.Core.Path.{_≡_};
 ghost use Prim.Native.Nat.{_-_, _≤_, min};
 ghost use lib.ListN.{length, take, drop};
 ghost use lib.Seq.{sets};
-ghost use Rattle.plan.specs.declared.Region.the-variants.{Source, Target};
+ghost use Rattle.plan.specs.declared.Plan.{Plan};
+ghost use Rattle.plan.specs.Find.{holderAt, seen};
 ghost use Rattle.setup.specs.Dialling.{stringOf};
 ghost use Rattle.setup.specs.Setups.{routingAddress, listOf};
 ghost use Rattle.embedded.specs.Embedded.{embedded};
 ghost use Rattle.routing.specs.declared.Later.the-variants.{Nothing};
-ghost use Rattle.routing.specs.Interface.{boxOf, firstBox, interfaceAt};
-ghost use Rattle.zone.specs.Answer.{zoneAt};
+ghost use Rattle.routing.specs.Interface.{boxOf, firstBox};
 ghost use Rattle.routing.specs.Steps.{dials, target1, placeOf, before, exhausted, tail, callee4, received4};
-ghost use Rattle.routing.specs.Routing.{roomy, settledBy, refusedWith, outcome, outcomeBy, answer, answerBy, sourceList, targetList};
-ghost use Rattle.routing.specs.Places.{listIn, zoneIn, suffixBegins, begins, delivered, advanced};
+ghost use Rattle.routing.specs.Routing.{roomy, refusedWith, outcome, outcomeBy, answer, answerBy, sourceList, targetList};
+ghost use Rattle.routing.specs.Places.{listIn, zoneIn, suffixBegins, begins, delivered, advanced, settledIn};
 use embedded::Dials;
-use plan::Found;
 use plan::Plan;
 use plan::Region;
+use plan::Seen;
 use plan::Subscriber;
 use refusal::Refusal;
 use setup::Dialled;
@@ -74,7 +74,7 @@ fn embedded_target(d: Dialled) -> u32
 }
 
 // The target after step 1.
-fn extracted(out: Setup) -> u32
+pub fn extracted(out: Setup) -> u32
     ensures { λ r. ⌜ r ≡ target1 out ⌝ }
 {
     let dialled = out.dialled;
@@ -110,18 +110,6 @@ fn first_box(s: Subscriber, address: u32) -> Callee
         return Callee::Error(address);
     }
     box_of(s.kind, boxes[0], address)
-}
-
-// The interface box of an address, or the error box.
-fn interface_at(plan: Plan, address: u32) -> Callee
-    ensures { λ r. ⌜ r ≡ interfaceAt plan address ⌝ }
-{
-    let Found::At(i) = plan::find(plan, address) else {
-        return Callee::Error(address);
-    };
-    let subscribers = plan.subscribers;
-    let s = subscribers[i];
-    first_box(s, address)
 }
 
 // ---- step 2: expand the route
@@ -227,11 +215,12 @@ fn zone_in(region: Region, source_zone: Zone, target_zone: Zone) -> Zone
 
 // ---- step 4: choose the callee box
 
-fn box_chosen(plan: Plan, source: u32, target: u32, region: Region, rest: &[u8]) -> Callee
-    ensures { λ r. ⌜ r ≡ callee4 plan source target region (now (rest .entry)) ⌝ }
+// The box under every plan in which the target's subscriber is this one.
+fn box_chosen(holder: Subscriber, source: u32, target: u32, region: Region, rest: &[u8]) -> Callee
+    ensures { λ r. ⌜ ((p : Plan) → holderAt p target ≡ holder → r ≡ callee4 p source target region (now (rest .entry))) ⌝ }
 {
     if rest.len() == 0 {
-        return interface_at(plan, target);
+        return first_box(holder, target);
     }
     Callee::Feature(rest[0], setup::routing(region, source, target))
 }
@@ -260,12 +249,19 @@ fn received(out: Setup, target: u32, region: Region, outer: Outer, rest: &[u8]) 
     }
 }
 
-fn deliver(plan: Plan, out: Setup, target: u32, region: Region, outer: Outer, rest: &[u8]) -> Answer
+fn deliver(
+    holder: Subscriber,
+    out: Setup,
+    target: u32,
+    region: Region,
+    outer: Outer,
+    rest: &[u8],
+) -> Answer
     requires { ⌜ length (now rest) ≤ 32 ⌝ }
-    ensures { λ r. ⌜ r ≡ delivered plan out target region outer (now (rest .entry)) ⌝ }
+    ensures { λ r. ⌜ ((p : Plan) → holderAt p target ≡ holder → r ≡ delivered p out target region outer (now (rest .entry))) ⌝ }
 {
     Answer {
-        outcome: Outcome::Routed(box_chosen(plan, out.source, target, region, rest)),
+        outcome: Outcome::Routed(box_chosen(holder, out.source, target, region, rest)),
         setup: received(out, target, region, outer, rest),
         left: less(rest.len(), 1) as u8,
     }
@@ -273,7 +269,7 @@ fn deliver(plan: Plan, out: Setup, target: u32, region: Region, outer: Outer, re
 
 // Steps 2 to 4 on the lists, which hold the two zones.
 fn hand_over<'a>(
-    plan: Plan,
+    holder: Subscriber,
     out: Setup,
     target: u32,
     source_zone: Zone,
@@ -282,7 +278,7 @@ fn hand_over<'a>(
     target_list: &'a [u8],
 ) -> Answer
     requires { ⌜ (take (length (listOf «source_zone»)) (now «source_list») ≡ listOf «source_zone») × (take (length (listOf «target_zone»)) (now «target_list») ≡ listOf «target_zone») × (length (listOf «source_zone») ≤ 32) × (length (listOf «target_zone») ≤ 32) ⌝ }
-    ensures { λ r. ⌜ r ≡ advanced plan out target (drop (begins (out .route) (out .placing) (listOf (out .list)) (listOf (zoneIn (out .region) «source_zone» «target_zone»))) (listOf (zoneIn (out .region) «source_zone» «target_zone»))) (listOf «target_zone») ⌝ }
+    ensures { λ r. ⌜ ((p : Plan) → holderAt p target ≡ holder → r ≡ advanced p out target (drop (begins (out .route) (out .placing) (listOf (out .list)) (listOf (zoneIn (out .region) «source_zone» «target_zone»))) (listOf (zoneIn (out .region) «source_zone» «target_zone»))) (listOf «target_zone»)) ⌝ }
 {
     let region = out.region;
     let route = out.route;
@@ -294,11 +290,11 @@ fn hand_over<'a>(
     if exhausted(region, from, zone) {
         let end = setup::list_length(target_zone);
         let rest = expand(Region::Target, 0, end, source_list, target_list);
-        deliver(plan, out, target, Region::Target, Outer::NoOuter, rest)
+        deliver(holder, out, target, Region::Target, Outer::NoOuter, rest)
     } else {
         let end = setup::list_length(zone);
         let rest = expand(region, from, end, source_list, target_list);
-        deliver(plan, out, target, region, outer, rest)
+        deliver(holder, out, target, region, outer, rest)
     }
 }
 
@@ -316,7 +312,7 @@ fn roomy(source_room: usize, target_room: usize) -> bool
 // The first refusal that applies, or nothing, for a caller that has built both zones.
 fn settled(
     kept: bool,
-    plan: Plan,
+    reversible: u32,
     out: Setup,
     later: Later,
     source_zone: Zone,
@@ -324,16 +320,14 @@ fn settled(
     source_room: usize,
     target_room: usize,
 ) -> Later
-    requires { ⌜ (listOf «source_zone» ≡ zoneAt plan Source (out .source)) × (listOf «target_zone» ≡ zoneAt plan Target (target1 out)) ⌝ }
-    ensures { λ r. ⌜ r ≡ settledBy kept plan out later «source_room» «target_room» ⌝ }
+    ensures { λ r. ⌜ r ≡ settledIn kept (listOf (zoneIn (out .region) «source_zone» «target_zone»)) reversible out later «source_room» «target_room» ⌝ }
 {
     let region = out.region;
-    let types = plan.types;
     let zone = zone_in(region, source_zone, target_zone);
     if !kept {
         return Later::Refuse(Refusal::RuleBroken(0));
     }
-    if !faults::well_formed_in(zone, types.reversible, out) {
+    if !faults::well_formed_in(zone, reversible, out) {
         return Later::Refuse(Refusal::Malformed);
     }
     if !roomy(source_room, target_room) {
@@ -367,6 +361,56 @@ fn refused(r: Refusal) -> Answer
     }
 }
 
+// Routing by what a plan shows of the setup's source and of its target after step 1, and by a verdict on the plan: for a caller that has read these two subscribers, and not the whole plan. The
+// answer is that of every plan that shows this; nothing is promised of what no plan shows. `kept` says whether the plan is sound.
+pub fn route_seen(
+    kept: bool,
+    v: Seen,
+    out: Setup,
+    later: Later,
+    source_list: &mut [u8],
+    target_list: &mut [u8],
+) -> Answer
+    ensures { λ r. ⌜ ((p : Plan) → seen p (out .source) (target1 out) ≡ v
+        → (r ≡ answerBy kept p out later (length (now («source_list» .entry))) (length (now («target_list» .entry))))
+        × (now («source_list» .exit) ≡ sourceList p out (outcomeBy kept p out later (length (now («source_list» .entry))) (length (now («target_list» .entry)))) (now («source_list» .entry)))
+        × (now («target_list» .exit) ≡ targetList p out (outcomeBy kept p out later (length (now («source_list» .entry))) (length (now («target_list» .entry)))) (now («target_list» .entry)))) ⌝ }
+{
+    let target = extracted(out);
+    let types = v.types;
+    let source_order = v.source_order;
+    let target_order = v.target_order;
+    let source = v.first;
+    let holder = v.second;
+    let source_zone = zone::zone_of(source_order, source.source);
+    let target_zone = zone::zone_of(target_order, holder.target);
+    match settled(
+        kept,
+        types.reversible,
+        out,
+        later,
+        source_zone,
+        target_zone,
+        source_list.len(),
+        target_list.len(),
+    ) {
+        Later::Refuse(r) => refused(r),
+        Later::Nothing => {
+            put(source_zone, source_list);
+            put(target_zone, target_list);
+            hand_over(
+                holder,
+                out,
+                target,
+                source_zone,
+                target_zone,
+                source_list,
+                target_list,
+            )
+        }
+    }
+}
+
 // Routing by a verdict on the plan, for a caller that has it already: `kept` says whether the plan is sound. Nothing else is taken on trust.
 pub fn route_tested(
     kept: bool,
@@ -380,34 +424,8 @@ pub fn route_tested(
         × (now («source_list» .exit) ≡ sourceList plan out (outcomeBy kept plan out later (length (now («source_list» .entry))) (length (now («target_list» .entry)))) (now («source_list» .entry)))
         × (now («target_list» .exit) ≡ targetList plan out (outcomeBy kept plan out later (length (now («source_list» .entry))) (length (now («target_list» .entry)))) (now («target_list» .entry))) ⌝ }
 {
-    let target = extracted(out);
-    let source_zone = zone::zone_at(plan, Region::Source, out.source);
-    let target_zone = zone::zone_at(plan, Region::Target, target);
-    match settled(
-        kept,
-        plan,
-        out,
-        later,
-        source_zone,
-        target_zone,
-        source_list.len(),
-        target_list.len(),
-    ) {
-        Later::Refuse(r) => refused(r),
-        Later::Nothing => {
-            put(source_zone, source_list);
-            put(target_zone, target_list);
-            hand_over(
-                plan,
-                out,
-                target,
-                source_zone,
-                target_zone,
-                source_list,
-                target_list,
-            )
-        }
-    }
+    let v = plan::look(plan, out.source, extracted(out));
+    route_seen(kept, v, out, later, source_list, target_list)
 }
 
 // The callee box of any setup under any plan, the setup received and how many types are left, with the zones of source and target in the two lent lists; or 23, 5, 18 and then the caller's own

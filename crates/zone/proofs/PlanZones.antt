@@ -1,5 +1,5 @@
 -- The zones of a sound plan (manual 3.4 and 3.5): what an address has in a region, each once, in an order that the precedence allows. Assumes nothing.
-use mathlib.Core.Path.{_≡_, sym, ap, _∙_}
+use mathlib.Core.Path.{_≡_, refl, sym, ap, _∙_}
 use mathlib.Core.Bool.{Bool, true, false, false≢true}
 use lib.Dec.{lit≤}
 use mathlib.Core.List.{List, []}
@@ -16,7 +16,7 @@ use Rattle.order.specs.Rules.{precedes}
 use Rattle.plan.specs.declared.Verdict.the-variants.{Sound, Refused}
 use Rattle.plan.specs.Sound.{sound, verdict}
 use Rattle.refusal.specs.declared.Refusal.the-variants.{RuleBroken}
-use Rattle.plan.specs.Find.{lookup}
+use Rattle.plan.specs.Find.{lookup, holderOf, holderAt}
 use Rattle.plan.proofs.Lookup.{found-used, lookup-not-given, zero-not-given, illegal-not-given}
 use Rattle.plan.proofs.Laws.{used-all, subscribed-chosen, reversible-twice}
 use Rattle.zone.specs.Order.{zoneList, held}
@@ -24,6 +24,7 @@ use Rattle.zone.specs.Answer.{zoneFor, zoneAt, answer}
 use Rattle.zone.proofs.Precedence.{strict-order}
 use Rattle.zone.proofs.Members.{times, elem, ahead, zone-length, InOrder}
 use Rattle.zone.proofs.Held.{zone-fits}
+use Rattle.zone.proofs.Zones.{zone-empty}
 use Rattle.zone.proofs.AnySet.{low, any-once, any-members, any-below, any-sorted, any-in-order, any-one}
 
 -- ---- any plan
@@ -57,6 +58,17 @@ pub zone-found : (p : Plan) (r : Region) (a i : ℕ) → lookup p a ≡ At i
     → zoneAt p r a ≡ zoneList (order r p) (subscribed r (at (p .subscribers) i))
 unfolding zoneAt zoneFor
 zone-found p r a i e = rw e
+
+shown-of : (p : Plan) (r : Region) (f : Found) → zoneFor p r f ≡ zoneList (order r p) (subscribed r (holderOf p f))
+unfolding zoneFor
+shown-of p r (At i) = refl
+shown-of p Source Nothing = sym (zone-empty (p .«source_order»))
+shown-of p Target Nothing = sym (zone-empty (p .«target_order»))
+
+-- that of the subscriber whom the plan shows for the address, found or not: nobody subscribes to anything
+pub zone-shown : (p : Plan) (r : Region) (a : ℕ) → zoneAt p r a ≡ zoneList (order r p) (subscribed r (holderAt p a))
+unfolding zoneAt holderAt
+zone-shown p r a = shown-of p r (lookup p a)
 
 -- 0 has empty zones, and so has a number that is no address
 pub zone-zero : (p : Plan) (r : Region) → zoneAt p r 0 ≡ []

@@ -3,17 +3,20 @@ use mathlib.Core.Path.{_≡_, refl, sym, ap, _∙_}
 use Rattle.setup.specs.Setups.{routing}
 use Rattle.routing.specs.Interface.{interfaceAt}
 use Rattle.routing.specs.Steps.{callee4}
+use Rattle.routing.proofs.Boxes.{interface-shown}
 use Rattle.routing.proofs.Chosen.{chosen-none, chosen-some}
 use borrow.Author.Needs.{needs}
 use Rattle.routing.proofs.box_chosen.Statement.{statement}
 use Rattle.routing.proofs.box_chosen.Tie as tie
 
-interface-at-requires : tie.Need-interface-at-requires
-interface-at-requires c κs = search needs
+first-box-requires : tie.Need-first-box-requires
+first-box-requires c κs = search needs
 
 returns : tie.Need-returns
 unfolding callee4
-returns c = c .interface-at .ensures ∙ sym (chosen-none (c .before .before .before .args .rest .now) _ _ (c .before .if1 .taken))
+returns c p shown =
+    let a = c .before .before .before .args in
+    c .first-box .ensures ∙ sym (interface-shown p (a .target) shown) ∙ sym (chosen-none (a .rest .now) _ _ (c .before .if1 .taken))
 
 shared-slice-read-t9 : tie.Need-shared-slice-read-t9
 shared-slice-read-t9 c = search needs
@@ -23,9 +26,11 @@ routing-requires c κs = search needs
 
 returns-2 : tie.Need-returns-2
 unfolding callee4
-returns-2 c = rw (c .routing .ensures) (sym (chosen-some (c .before .before .before .before .args .rest .now) (routing (c .before .before .before .before .args .region) (c .before .before .before .before .args .source) (c .before .before .before .before .args .target)) (interfaceAt (c .before .before .before .before .args .plan) (c .before .before .before .before .args .target)) (c .before .before .if1 .left)))
+returns-2 c p shown =
+    let a = c .before .before .before .before .args in
+    rw (c .routing .ensures) (sym (chosen-some (a .rest .now) (routing (a .region) (a .source) (a .target)) (interfaceAt p (a .target)) (c .before .before .if1 .left)))
 
 pub box-chosen-spec : {M : Type 1} → statement M
 box-chosen-spec =
     tie.close
-    (tie.spec interface-at-requires returns shared-slice-read-t9 routing-requires returns-2)
+    (tie.spec first-box-requires returns shared-slice-read-t9 routing-requires returns-2)

@@ -22,9 +22,9 @@ cast-t12 c = search needs
 
 returns : tie.Need-returns
 unfolding delivered answered
-returns c =
+returns c p shown =
     let rest = c .before .before .before .before .args .rest .now in
-    rw (c .before .before .box-chosen .ensures, c .before .received .ensures, c .less .ensures, tail-length rest)
+    rw (c .before .before .box-chosen .ensures p shown, c .before .received .ensures, c .less .ensures, tail-length rest)
 
 pub deliver-spec : {M : Type 1} → statement M
 deliver-spec =

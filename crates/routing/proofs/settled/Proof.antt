@@ -1,9 +1,8 @@
 -- `routing::settled` meets its contract. Assumes nothing.
-use mathlib.Core.Path.{_≡_, refl, sym, ap, _∙_}
+use mathlib.Core.Path.{_≡_, refl}
 use Rattle.typeset.proofs.Bools.{passed, failed}
 use mathlib.Core.Bool.{true, false}
-use Rattle.routing.specs.Routing.{settledBy}
-use Rattle.routing.proofs.Zoned.{well-formed-zones}
+use Rattle.routing.specs.Places.{settledIn}
 use borrow.Author.Needs.{needs}
 use Rattle.routing.proofs.settled.Statement.{statement}
 use Rattle.routing.proofs.settled.Tie as tie
@@ -12,45 +11,36 @@ zone-in-requires : tie.Need-zone-in-requires
 zone-in-requires c κs = search needs
 
 returns : tie.Need-returns
-unfolding settledBy
+unfolding settledIn
 returns c =
-    let kept : c .before .before .before .args .kept ≡ false = failed refl (c .if1 .taken) in
+    let kept : c .before .before .args .kept ≡ false = failed refl (c .if1 .taken) in
     rw kept
 
 well-formed-in-requires : tie.Need-well-formed-in-requires
 well-formed-in-requires c κs = search needs
 
 returns-2 : tie.Need-returns-2
-unfolding settledBy
+unfolding settledIn
 returns-2 c =
-    let a = c .before .before .before .before .before .args in
-    let asked = c .before .before .before .before .before .pre in
-    let zone = rw (c .before .before .before .zone-in .ensures) at (c .before .well-formed-in .ensures) in
-    let same = zone ∙ well-formed-zones (a .plan) (a .out) (a .source-zone) (a .target-zone) (asked .0) (asked .1) in
-    let kept : a .kept ≡ true = passed refl (c .before .before .if1 .left) in
+    let same = rw (c .before .before .before .zone-in .ensures) at (c .before .well-formed-in .ensures) in
+    let kept : c .before .before .before .before .args .kept ≡ true = passed refl (c .before .before .if1 .left) in
     rw (kept, failed same (c .if2 .taken))
 
 roomy-requires : tie.Need-roomy-requires
 roomy-requires c κs = search needs
 
 returns-3 : tie.Need-returns-3
-unfolding settledBy
+unfolding settledIn
 returns-3 c =
-    let a = c .before .before .before .before .before .before .before .args in
-    let asked = c .before .before .before .before .before .before .before .pre in
-    let zone = rw (c .before .before .before .before .before .zone-in .ensures) at (c .before .before .before .well-formed-in .ensures) in
-    let same = zone ∙ well-formed-zones (a .plan) (a .out) (a .source-zone) (a .target-zone) (asked .0) (asked .1) in
-    let kept : a .kept ≡ true = passed refl (c .before .before .before .before .if1 .left) in
+    let same = rw (c .before .before .before .before .before .zone-in .ensures) at (c .before .before .before .well-formed-in .ensures) in
+    let kept : c .before .before .before .before .before .before .args .kept ≡ true = passed refl (c .before .before .before .before .if1 .left) in
     rw (kept, passed same (c .before .before .if2 .left), failed (c .before .roomy .ensures) (c .if3 .taken))
 
 returns-4 : tie.Need-returns-4
-unfolding settledBy
+unfolding settledIn
 returns-4 c =
-    let a = c .before .before .before .before .before .before .before .args in
-    let asked = c .before .before .before .before .before .before .before .pre in
-    let zone = rw (c .before .before .before .before .before .zone-in .ensures) at (c .before .before .before .well-formed-in .ensures) in
-    let same = zone ∙ well-formed-zones (a .plan) (a .out) (a .source-zone) (a .target-zone) (asked .0) (asked .1) in
-    let kept : a .kept ≡ true = passed refl (c .before .before .before .before .if1 .left) in
+    let same = rw (c .before .before .before .before .before .zone-in .ensures) at (c .before .before .before .well-formed-in .ensures) in
+    let kept : c .before .before .before .before .before .before .args .kept ≡ true = passed refl (c .before .before .before .before .if1 .left) in
     rw (kept, passed same (c .before .before .if2 .left), passed (c .before .roomy .ensures) (c .if3 .left))
 
 pub settled-spec : {M : Type 1} → statement M
