@@ -1,3 +1,4 @@
+pub mod Shown
 pub mod Outcomes
 pub mod WellFormed
 pub mod Exact

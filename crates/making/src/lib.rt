@@ -1,21 +1,26 @@
 // The three ways to make a setup: new, continued and reversed.
 ghost use mathlib.Core.Path.{_≡_};
 ghost use mathlib.Core.Bool.{_&&_, cond};
-ghost use lib.Dec.{eqb};
+ghost use Prim.Native.Nat.{ℕ};
 ghost use Rattle.typeset.specs.Sets.{has};
 ghost use Rattle.refusal.specs.declared.Place.the-variants.{Nowhere, At};
+ghost use Rattle.plan.specs.declared.Plan.{Plan};
 ghost use Rattle.plan.specs.Parts.{legal};
 ghost use Rattle.plan.specs.Sound.{sound};
-ghost use Rattle.plan.specs.Find.{lookup};
-ghost use Rattle.setup.specs.Setups.{wellFormed};
-ghost use Rattle.making.specs.Making.{boxAddress, boxType, kindOf, somebody, typeExists, makesNew, makesMore, addressHeld, isList, notOwn, newOutcomeBy, continuedOutcomeBy, reversedOutcomeBy, answered, newAnswerBy, newAnswer, continuedAnswerBy, continuedAnswer, reversedAnswerBy, reversedAnswer, numberOfOutcome, placeOfOutcome};
+ghost use Rattle.plan.specs.Find.{holderAt, seen};
+ghost use Rattle.zone.specs.Order.{held};
+ghost use Rattle.zone.specs.Answer.{zoneAt};
+ghost use Rattle.setup.specs.Setups.{routingAddress, wellFormed};
+ghost use Rattle.making.specs.Making.{boxAddress, boxType, typeExists, makesNew, makesMore, addressHeld, isList, notOwn, newOutcomeBy, continuedOutcomeBy, reversedOutcomeBy, answered, newAnswerBy, newAnswer, continuedAnswerBy, continuedAnswer, reversedAnswerBy, reversedAnswer, numberOfOutcome, placeOfOutcome};
 ghost use Rattle.making.specs.Rows.{firstOf, newRows, continuedRows, reversedRows};
-use plan::Found;
 use plan::Plan;
 use plan::Region;
+use plan::Seen;
+use plan::Subscriber;
 use refusal::Refusal;
 use setup::Route;
 use setup::Setup;
+use zone::Zone;
 
 // The place of 23 for a plan in memory.
 const IN_MEMORY: usize = 0;
@@ -42,7 +47,8 @@ pub struct Answer {
 
 // ---- the box that makes a setup
 
-fn box_address(maker: Maker) -> u32
+// The address that the box is at, or names as its source; 0 for a box that makes no setup.
+pub fn box_address(maker: Maker) -> u32
     ensures { λ r. ⌜ r ≡ boxAddress maker ⌝ }
 {
     match maker {
@@ -66,39 +72,11 @@ fn box_type(maker: Maker) -> u8
     }
 }
 
-// The kind of the subscriber at an address, 0 where there is none.
-fn kind_at(plan: Plan, address: u32) -> u8
-    ensures { λ r. ⌜ r ≡ kindOf plan (lookup plan address) ⌝ }
+fn type_exists(existing: u32, maker: Maker) -> bool
+    ensures { λ r. ⌜ ((p : Plan) → p .types .existing ≡ existing → r ≡ typeExists p maker) ⌝ }
 {
-    let Found::At(i) = plan::find(plan, address) else {
-        return 0;
-    };
-    let subscribers = plan.subscribers;
-    let s = subscribers[i];
-    s.kind
-}
-
-fn in_plan(plan: Plan, address: u32) -> bool
-    ensures { λ r. ⌜ r ≡ somebody (lookup plan address) ⌝ }
-{
-    match plan::find(plan, address) {
-        Found::At(_) => true,
-        Found::Nothing => false,
-    }
-}
-
-fn of_kind(plan: Plan, address: u32, kind: u8) -> bool
-    ensures { λ r. ⌜ r ≡ eqb (kindOf plan (lookup plan address)) kind ⌝ }
-{
-    kind_at(plan, address) == kind
-}
-
-fn type_exists(plan: Plan, maker: Maker) -> bool
-    ensures { λ r. ⌜ r ≡ typeExists plan maker ⌝ }
-{
-    let types = plan.types;
     match maker {
-        Maker::Feature(t, _) => typeset::has(types.existing, t as u32),
+        Maker::Feature(t, _) => typeset::has(existing, t as u32),
         Maker::Line(_) => true,
         Maker::Trunk(_) => true,
         Maker::Resource => true,
@@ -130,13 +108,14 @@ fn makes_more(maker: Maker) -> bool
     }
 }
 
-fn address_held(plan: Plan, maker: Maker) -> bool
-    ensures { λ r. ⌜ r ≡ addressHeld plan maker ⌝ }
+// 3, by the subscriber that a plan shows of the box's address: an address of 0 is shown where nobody has it, and nobody is of no kind.
+fn address_held(holder: Subscriber, maker: Maker) -> bool
+    ensures { λ r. ⌜ ((p : Plan) → holderAt p (boxAddress maker) ≡ holder → r ≡ addressHeld p maker) ⌝ }
 {
     match maker {
-        Maker::Feature(_, a) => in_plan(plan, a),
-        Maker::Line(a) => of_kind(plan, a, 1),
-        Maker::Trunk(a) => of_kind(plan, a, 2),
+        Maker::Feature(_, _) => holder.address != 0,
+        Maker::Line(_) => holder.kind == 1,
+        Maker::Trunk(_) => holder.kind == 2,
         Maker::Resource => true,
         Maker::Error => true,
     }
@@ -154,12 +133,29 @@ fn is_list(route: Route) -> bool
     }
 }
 
+// The zone that a stored setup's list is held against, where a plan shows the subscriber of its routing address as the second.
+fn zone_shown(region: Region, v: Seen) -> Zone
+    ensures { λ r. ⌜ ((p : Plan) (first second : ℕ) → seen p first second ≡ v → r ≡ held (zoneAt p region second)) ⌝ }
+{
+    let holder = v.second;
+    match region {
+        Region::Source => {
+            let rows = v.source_order;
+            zone::zone_of(rows, holder.source)
+        }
+        Region::Target => {
+            let rows = v.target_order;
+            zone::zone_of(rows, holder.target)
+        }
+    }
+}
+
 // Whether a setup can be continued: it is well formed, and its route is a list.
-fn continuable(plan: Plan, s: Setup) -> bool
-    ensures { λ r. ⌜ r ≡ (wellFormed plan s && isList (s .route)) ⌝ }
+fn continuable(zone: Zone, reversible: u32, s: Setup) -> bool
+    ensures { λ r. ⌜ ((p : Plan) → zone ≡ held (zoneAt p (s .region) (routingAddress s)) → p .types .reversible ≡ reversible → r ≡ (wellFormed p s && isList (s .route))) ⌝ }
 {
     let route = s.route;
-    if !faults::well_formed(plan, s) {
+    if !faults::well_formed_in(zone, reversible, s) {
         return false;
     }
     is_list(route)
@@ -186,19 +182,26 @@ fn both_legal(source_arg: u32, target_arg: u32) -> bool
     plan::legal(target_arg)
 }
 
-fn new_outcome(kept: bool, plan: Plan, maker: Maker, string: &[u8], target_arg: u32) -> Outcome
-    ensures { λ r. ⌜ r ≡ newOutcomeBy kept plan maker (now (string .entry)) «target_arg» ⌝ }
+fn new_outcome(
+    kept: bool,
+    existing: u32,
+    holder: Subscriber,
+    maker: Maker,
+    string: &[u8],
+    target_arg: u32,
+) -> Outcome
+    ensures { λ r. ⌜ ((p : Plan) → p .types .existing ≡ existing → holderAt p (boxAddress maker) ≡ holder → r ≡ newOutcomeBy kept p maker (now (string .entry)) «target_arg») ⌝ }
 {
     if !kept {
         return Outcome::Refused(Refusal::RuleBroken(IN_MEMORY));
     }
-    if !type_exists(plan, maker) {
+    if !type_exists(existing, maker) {
         return Outcome::Refused(Refusal::NoSuchType);
     }
     if !makes_new(maker) {
         return Outcome::Refused(Refusal::NotForThisBox);
     }
-    if !address_held(plan, maker) {
+    if !address_held(holder, maker) {
         return Outcome::Refused(Refusal::WrongAddress);
     }
     if !setup::legal_string(string) {
@@ -212,30 +215,32 @@ fn new_outcome(kept: bool, plan: Plan, maker: Maker, string: &[u8], target_arg: 
 
 fn continued_outcome(
     kept: bool,
-    plan: Plan,
+    v: Seen,
     maker: Maker,
     s: Setup,
     source_arg: u32,
     string: &[u8],
     target_arg: u32,
 ) -> Outcome
-    ensures { λ r. ⌜ r ≡ continuedOutcomeBy kept plan maker s «source_arg» (now (string .entry)) «target_arg» ⌝ }
+    ensures { λ r. ⌜ ((p : Plan) → seen p (boxAddress maker) (routingAddress s) ≡ v → r ≡ continuedOutcomeBy kept p maker s «source_arg» (now (string .entry)) «target_arg») ⌝ }
 {
+    let types = v.types;
+    let holder = v.first;
     let region = s.region;
     let at = box_address(maker);
     if !kept {
         return Outcome::Refused(Refusal::RuleBroken(IN_MEMORY));
     }
-    if !type_exists(plan, maker) {
+    if !type_exists(types.existing, maker) {
         return Outcome::Refused(Refusal::NoSuchType);
     }
     if !makes_more(maker) {
         return Outcome::Refused(Refusal::NotForThisBox);
     }
-    if !address_held(plan, maker) {
+    if !address_held(holder, maker) {
         return Outcome::Refused(Refusal::WrongAddress);
     }
-    if !continuable(plan, s) {
+    if !continuable(zone_shown(region, v), types.reversible, s) {
         return Outcome::Refused(Refusal::Malformed);
     }
     if setup::routing_address(s) != at {
@@ -253,43 +258,44 @@ fn continued_outcome(
     Outcome::Made
 }
 
-fn reversible_type(plan: Plan, maker: Maker) -> bool
-    ensures { λ r. ⌜ r ≡ has (boxType maker) (plan .types .reversible) ⌝ }
+fn reversible_type(reversible: u32, maker: Maker) -> bool
+    ensures { λ r. ⌜ r ≡ has (boxType maker) reversible ⌝ }
 {
-    let types = plan.types;
-    typeset::has(types.reversible, box_type(maker) as u32)
+    typeset::has(reversible, box_type(maker) as u32)
 }
 
 fn reversed_outcome(
     kept: bool,
-    plan: Plan,
+    v: Seen,
     maker: Maker,
     s: Setup,
     source_arg: u32,
     string: &[u8],
     target_arg: u32,
 ) -> Outcome
-    ensures { λ r. ⌜ r ≡ reversedOutcomeBy kept plan maker s «source_arg» (now (string .entry)) «target_arg» ⌝ }
+    ensures { λ r. ⌜ ((p : Plan) → seen p (boxAddress maker) (routingAddress s) ≡ v → r ≡ reversedOutcomeBy kept p maker s «source_arg» (now (string .entry)) «target_arg») ⌝ }
 {
+    let types = v.types;
+    let holder = v.first;
     let region = s.region;
     let at = box_address(maker);
     let back = made::turned(region);
     if !kept {
         return Outcome::Refused(Refusal::RuleBroken(IN_MEMORY));
     }
-    if !type_exists(plan, maker) {
+    if !type_exists(types.existing, maker) {
         return Outcome::Refused(Refusal::NoSuchType);
     }
     if !makes_more(maker) {
         return Outcome::Refused(Refusal::NotForThisBox);
     }
-    if !address_held(plan, maker) {
+    if !address_held(holder, maker) {
         return Outcome::Refused(Refusal::WrongAddress);
     }
-    if !reversible_type(plan, maker) {
+    if !reversible_type(types.reversible, maker) {
         return Outcome::Refused(Refusal::NotReversible);
     }
-    if !faults::well_formed(plan, s) {
+    if !faults::well_formed_in(zone_shown(region, v), types.reversible, s) {
         return Outcome::Refused(Refusal::Malformed);
     }
     if !setup::legal_string(string) {
@@ -322,13 +328,24 @@ fn answered(outcome: Outcome, s: Setup) -> Answer
     }
 }
 
+// A new setup by what a plan shows, for a caller that has not built the plan: `v` shows the box's address as the first (the second is not looked at), and `kept` says whether the plan is
+// sound. Where no plan shows `v`, nothing is said of the answer.
+pub fn new_seen(kept: bool, v: Seen, maker: Maker, string: &[u8], target_arg: u32) -> Answer
+    ensures { λ r. ⌜ ((p : Plan) (second : ℕ) → seen p (boxAddress maker) second ≡ v → r ≡ newAnswerBy kept p maker (now (string .entry)) «target_arg») ⌝ }
+{
+    let types = v.types;
+    let holder = v.first;
+    let outcome = new_outcome(kept, types.existing, holder, maker, string, target_arg);
+    let made = made::new_of(box_address(maker), string, target_arg);
+    answered(outcome, made)
+}
+
 // A new setup by a verdict on the plan, for a caller that has it already: `kept` says whether the plan is sound. Nothing else is taken on trust.
 pub fn new_tested(kept: bool, plan: Plan, maker: Maker, string: &[u8], target_arg: u32) -> Answer
     ensures { λ r. ⌜ r ≡ newAnswerBy kept plan maker (now (string .entry)) «target_arg» ⌝ }
 {
-    let outcome = new_outcome(kept, plan, maker, string, target_arg);
-    let made = made::new_of(box_address(maker), string, target_arg);
-    answered(outcome, made)
+    let v = plan::look(plan, box_address(maker), 0);
+    new_seen(kept, v, maker, string, target_arg)
 }
 
 // A new setup (manual 5.4), for any plan, maker, bytes and number.
@@ -338,6 +355,24 @@ pub fn new_setup(plan: Plan, maker: Maker, string: &[u8], target_arg: u32) -> An
 {
     let kept = soundness::sound(plan);
     new_tested(kept, plan, maker, string, target_arg)
+}
+
+// A setup continued by what a plan shows, for a caller that has not built the plan: `v` shows the box's address as the first and the routing address of `s` as the second, and `kept` says whether
+// the plan is sound. Where no plan shows `v`, nothing is said of the answer.
+pub fn continued_seen(
+    kept: bool,
+    v: Seen,
+    maker: Maker,
+    s: Setup,
+    source_arg: u32,
+    string: &[u8],
+    target_arg: u32,
+) -> Answer
+    ensures { λ r. ⌜ ((p : Plan) → seen p (boxAddress maker) (routingAddress s) ≡ v → r ≡ continuedAnswerBy kept p maker s «source_arg» (now (string .entry)) «target_arg») ⌝ }
+{
+    let outcome = continued_outcome(kept, v, maker, s, source_arg, string, target_arg);
+    let made = made::continued_of(box_address(maker), s, source_arg, string, target_arg);
+    answered(outcome, made)
 }
 
 // A setup continued by a verdict on the plan, for a caller that has it already: `kept` says whether the plan is sound. Nothing else is taken on trust.
@@ -352,9 +387,8 @@ pub fn continued_tested(
 ) -> Answer
     ensures { λ r. ⌜ r ≡ continuedAnswerBy kept plan maker s «source_arg» (now (string .entry)) «target_arg» ⌝ }
 {
-    let outcome = continued_outcome(kept, plan, maker, s, source_arg, string, target_arg);
-    let made = made::continued_of(box_address(maker), s, source_arg, string, target_arg);
-    answered(outcome, made)
+    let v = plan::look(plan, box_address(maker), setup::routing_address(s));
+    continued_seen(kept, v, maker, s, source_arg, string, target_arg)
 }
 
 // A setup continued (manual 5.5), for any plan, maker, stored setup and arguments.
@@ -373,6 +407,31 @@ pub fn continued_setup(
     continued_tested(kept, plan, maker, s, source_arg, string, target_arg)
 }
 
+// A setup reversed by what a plan shows, for a caller that has not built the plan: `v` shows the box's address as the first and the routing address of `s` as the second, and `kept` says whether
+// the plan is sound. Where no plan shows `v`, nothing is said of the answer.
+pub fn reversed_seen(
+    kept: bool,
+    v: Seen,
+    maker: Maker,
+    s: Setup,
+    source_arg: u32,
+    string: &[u8],
+    target_arg: u32,
+) -> Answer
+    ensures { λ r. ⌜ ((p : Plan) → seen p (boxAddress maker) (routingAddress s) ≡ v → r ≡ reversedAnswerBy kept p maker s «source_arg» (now (string .entry)) «target_arg») ⌝ }
+{
+    let outcome = reversed_outcome(kept, v, maker, s, source_arg, string, target_arg);
+    let made = made::reversed_of(
+        box_type(maker),
+        box_address(maker),
+        s,
+        source_arg,
+        string,
+        target_arg,
+    );
+    answered(outcome, made)
+}
+
 // A setup reversed by a verdict on the plan, for a caller that has it already: `kept` says whether the plan is sound. Nothing else is taken on trust.
 pub fn reversed_tested(
     kept: bool,
@@ -385,16 +444,8 @@ pub fn reversed_tested(
 ) -> Answer
     ensures { λ r. ⌜ r ≡ reversedAnswerBy kept plan maker s «source_arg» (now (string .entry)) «target_arg» ⌝ }
 {
-    let outcome = reversed_outcome(kept, plan, maker, s, source_arg, string, target_arg);
-    let made = made::reversed_of(
-        box_type(maker),
-        box_address(maker),
-        s,
-        source_arg,
-        string,
-        target_arg,
-    );
-    answered(outcome, made)
+    let v = plan::look(plan, box_address(maker), setup::routing_address(s));
+    reversed_seen(kept, v, maker, s, source_arg, string, target_arg)
 }
 
 // A setup reversed (manual 5.6), for any plan, maker, setup once sent and arguments.

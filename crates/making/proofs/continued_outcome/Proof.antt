@@ -2,7 +2,9 @@
 use Rattle.typeset.proofs.Bools.{passed, failed}
 use mathlib.Core.Path.{refl, sym, _∙_}
 use borrow.Author.Tests.{eq-eqb, ne-eqb}
-use Rattle.making.specs.Making.{continuedOutcome, continuedOutcomeBy}
+use Rattle.plan.proofs.Sight.{seen-first}
+use Rattle.making.specs.Making.{continuedOutcomeBy}
+use Rattle.making.proofs.Shown.{existing-seen, reversible-seen}
 use borrow.Author.Needs.{needs}
 use Rattle.making.proofs.continued_outcome.Statement.{statement}
 use Rattle.making.proofs.continued_outcome.Tie as tie
@@ -12,10 +14,10 @@ box-address-requires c κs = search needs
 
 returns : tie.Need-returns
 unfolding continuedOutcomeBy
-returns c =
+returns c p e =
     rw (
       ← c .before .box-address .ensures,
-      failed {b = c .before .before .before .args .kept} refl (c .if1 .taken),
+      failed {b = c .before .before .before .before .before .args .kept} refl (c .if1 .taken),
     )
 
 type-exists-requires : tie.Need-type-exists-requires
@@ -23,11 +25,11 @@ type-exists-requires c κs = search needs
 
 returns-2 : tie.Need-returns-2
 unfolding continuedOutcomeBy
-returns-2 c =
+returns-2 c p e =
     rw (
       ← c .before .before .before .box-address .ensures,
-      passed {b = c .before .before .before .before .before .args .kept} refl (c .before .before .if1 .left),
-      failed (c .before .type-exists .ensures) (c .if2 .taken),
+      passed {b = c .before .before .before .before .before .before .before .args .kept} refl (c .before .before .if1 .left),
+      failed (c .before .type-exists .ensures p (existing-seen p _ _ e)) (c .if2 .taken),
     )
 
 makes-more-requires : tie.Need-makes-more-requires
@@ -35,11 +37,11 @@ makes-more-requires c κs = search needs
 
 returns-3 : tie.Need-returns-3
 unfolding continuedOutcomeBy
-returns-3 c =
+returns-3 c p e =
     rw (
       ← c .before .before .before .before .before .box-address .ensures,
-      passed {b = c .before .before .before .before .before .before .before .args .kept} refl (c .before .before .before .before .if1 .left),
-      passed (c .before .before .before .type-exists .ensures) (c .before .before .if2 .left),
+      passed {b = c .before .before .before .before .before .before .before .before .before .args .kept} refl (c .before .before .before .before .if1 .left),
+      passed (c .before .before .before .type-exists .ensures p (existing-seen p _ _ e)) (c .before .before .if2 .left),
       failed (c .before .makes-more .ensures) (c .if3 .taken),
     )
 
@@ -48,28 +50,31 @@ address-held-requires c κs = search needs
 
 returns-4 : tie.Need-returns-4
 unfolding continuedOutcomeBy
-returns-4 c =
+returns-4 c p e =
     rw (
       ← c .before .before .before .before .before .before .before .box-address .ensures,
-      passed {b = c .before .before .before .before .before .before .before .before .before .args .kept} refl (c .before .before .before .before .before .before .if1 .left),
-      passed (c .before .before .before .before .before .type-exists .ensures) (c .before .before .before .before .if2 .left),
+      passed {b = c .before .before .before .before .before .before .before .before .before .before .before .args .kept} refl (c .before .before .before .before .before .before .if1 .left),
+      passed (c .before .before .before .before .before .type-exists .ensures p (existing-seen p _ _ e)) (c .before .before .before .before .if2 .left),
       passed (c .before .before .before .makes-more .ensures) (c .before .before .if3 .left),
-      failed (c .before .address-held .ensures) (c .if4 .taken),
+      failed (c .before .address-held .ensures p (seen-first p _ _ e)) (c .if4 .taken),
     )
+
+zone-shown-requires : tie.Need-zone-shown-requires
+zone-shown-requires c κs = search needs
 
 continuable-requires : tie.Need-continuable-requires
 continuable-requires c κs = search needs
 
 returns-5 : tie.Need-returns-5
 unfolding continuedOutcomeBy
-returns-5 c =
+returns-5 c p e =
     rw (
-      ← c .before .before .before .before .before .before .before .before .before .box-address .ensures,
-      passed {b = c .before .before .before .before .before .before .before .before .before .before .before .args .kept} refl (c .before .before .before .before .before .before .before .before .if1 .left),
-      passed (c .before .before .before .before .before .before .before .type-exists .ensures) (c .before .before .before .before .before .before .if2 .left),
-      passed (c .before .before .before .before .before .makes-more .ensures) (c .before .before .before .before .if3 .left),
-      passed (c .before .before .before .address-held .ensures) (c .before .before .if4 .left),
-      failed (c .before .continuable .ensures) (c .if5 .taken),
+      ← c .before .before .before .before .before .before .before .before .before .before .box-address .ensures,
+      passed {b = c .before .before .before .before .before .before .before .before .before .before .before .before .before .before .args .kept} refl (c .before .before .before .before .before .before .before .before .before .if1 .left),
+      passed (c .before .before .before .before .before .before .before .before .type-exists .ensures p (existing-seen p _ _ e)) (c .before .before .before .before .before .before .before .if2 .left),
+      passed (c .before .before .before .before .before .before .makes-more .ensures) (c .before .before .before .before .before .if3 .left),
+      passed (c .before .before .before .before .address-held .ensures p (seen-first p _ _ e)) (c .before .before .before .if4 .left),
+      failed (c .before .continuable .ensures p (c .before .before .zone-shown .ensures p _ _ e) (reversible-seen p _ _ e)) (c .if5 .taken),
     )
 
 routing-address-requires : tie.Need-routing-address-requires
@@ -77,14 +82,14 @@ routing-address-requires c κs = search needs
 
 returns-6 : tie.Need-returns-6
 unfolding continuedOutcomeBy
-returns-6 c =
+returns-6 c p e =
     rw (
-      ← c .before .before .before .before .before .before .before .before .before .before .before .box-address .ensures,
-      passed {b = c .before .before .before .before .before .before .before .before .before .before .before .before .before .args .kept} refl (c .before .before .before .before .before .before .before .before .before .before .if1 .left),
-      passed (c .before .before .before .before .before .before .before .before .before .type-exists .ensures) (c .before .before .before .before .before .before .before .before .if2 .left),
-      passed (c .before .before .before .before .before .before .before .makes-more .ensures) (c .before .before .before .before .before .before .if3 .left),
-      passed (c .before .before .before .before .before .address-held .ensures) (c .before .before .before .before .if4 .left),
-      passed (c .before .before .before .continuable .ensures) (c .before .before .if5 .left),
+      ← c .before .before .before .before .before .before .before .before .before .before .before .before .box-address .ensures,
+      passed {b = c .before .before .before .before .before .before .before .before .before .before .before .before .before .before .before .before .args .kept} refl (c .before .before .before .before .before .before .before .before .before .before .before .if1 .left),
+      passed (c .before .before .before .before .before .before .before .before .before .before .type-exists .ensures p (existing-seen p _ _ e)) (c .before .before .before .before .before .before .before .before .before .if2 .left),
+      passed (c .before .before .before .before .before .before .before .before .makes-more .ensures) (c .before .before .before .before .before .before .before .if3 .left),
+      passed (c .before .before .before .before .before .before .address-held .ensures p (seen-first p _ _ e)) (c .before .before .before .before .before .if4 .left),
+      passed (c .before .before .before .continuable .ensures p (c .before .before .before .before .zone-shown .ensures p _ _ e) (reversible-seen p _ _ e)) (c .before .before .if5 .left),
       ne-eqb _ _ (λ z. c .if6 .taken (c .before .routing-address .ensures ∙ z)),
     )
 
@@ -93,14 +98,14 @@ legal-string-requires c κs = search needs
 
 returns-7 : tie.Need-returns-7
 unfolding continuedOutcomeBy
-returns-7 c =
+returns-7 c p e =
     rw (
-      ← c .before .before .before .before .before .before .before .before .before .before .before .before .before .box-address .ensures,
-      passed {b = c .before .before .before .before .before .before .before .before .before .before .before .before .before .before .before .args .kept} refl (c .before .before .before .before .before .before .before .before .before .before .before .before .if1 .left),
-      passed (c .before .before .before .before .before .before .before .before .before .before .before .type-exists .ensures) (c .before .before .before .before .before .before .before .before .before .before .if2 .left),
-      passed (c .before .before .before .before .before .before .before .before .before .makes-more .ensures) (c .before .before .before .before .before .before .before .before .if3 .left),
-      passed (c .before .before .before .before .before .before .before .address-held .ensures) (c .before .before .before .before .before .before .if4 .left),
-      passed (c .before .before .before .before .before .continuable .ensures) (c .before .before .before .before .if5 .left),
+      ← c .before .before .before .before .before .before .before .before .before .before .before .before .before .before .box-address .ensures,
+      passed {b = c .before .before .before .before .before .before .before .before .before .before .before .before .before .before .before .before .before .before .args .kept} refl (c .before .before .before .before .before .before .before .before .before .before .before .before .before .if1 .left),
+      passed (c .before .before .before .before .before .before .before .before .before .before .before .before .type-exists .ensures p (existing-seen p _ _ e)) (c .before .before .before .before .before .before .before .before .before .before .before .if2 .left),
+      passed (c .before .before .before .before .before .before .before .before .before .before .makes-more .ensures) (c .before .before .before .before .before .before .before .before .before .if3 .left),
+      passed (c .before .before .before .before .before .before .before .before .address-held .ensures p (seen-first p _ _ e)) (c .before .before .before .before .before .before .before .if4 .left),
+      passed (c .before .before .before .before .before .continuable .ensures p (c .before .before .before .before .before .before .zone-shown .ensures p _ _ e) (reversible-seen p _ _ e)) (c .before .before .before .before .if5 .left),
       eq-eqb _ _ (sym (c .before .before .before .routing-address .ensures) ∙ c .before .before .if6 .left),
       failed (c .before .legal-string .ensures) (c .if7 .taken),
     )
@@ -110,14 +115,14 @@ not-own-requires c κs = search needs
 
 returns-8 : tie.Need-returns-8
 unfolding continuedOutcomeBy
-returns-8 c =
+returns-8 c p e =
     rw (
-      ← c .before .before .before .before .before .before .before .before .before .before .before .before .before .before .before .box-address .ensures,
-      passed {b = c .before .before .before .before .before .before .before .before .before .before .before .before .before .before .before .before .before .args .kept} refl (c .before .before .before .before .before .before .before .before .before .before .before .before .before .before .if1 .left),
-      passed (c .before .before .before .before .before .before .before .before .before .before .before .before .before .type-exists .ensures) (c .before .before .before .before .before .before .before .before .before .before .before .before .if2 .left),
-      passed (c .before .before .before .before .before .before .before .before .before .before .before .makes-more .ensures) (c .before .before .before .before .before .before .before .before .before .before .if3 .left),
-      passed (c .before .before .before .before .before .before .before .before .before .address-held .ensures) (c .before .before .before .before .before .before .before .before .if4 .left),
-      passed (c .before .before .before .before .before .before .before .continuable .ensures) (c .before .before .before .before .before .before .if5 .left),
+      ← c .before .before .before .before .before .before .before .before .before .before .before .before .before .before .before .before .box-address .ensures,
+      passed {b = c .before .before .before .before .before .before .before .before .before .before .before .before .before .before .before .before .before .before .before .before .args .kept} refl (c .before .before .before .before .before .before .before .before .before .before .before .before .before .before .before .if1 .left),
+      passed (c .before .before .before .before .before .before .before .before .before .before .before .before .before .before .type-exists .ensures p (existing-seen p _ _ e)) (c .before .before .before .before .before .before .before .before .before .before .before .before .before .if2 .left),
+      passed (c .before .before .before .before .before .before .before .before .before .before .before .before .makes-more .ensures) (c .before .before .before .before .before .before .before .before .before .before .before .if3 .left),
+      passed (c .before .before .before .before .before .before .before .before .before .before .address-held .ensures p (seen-first p _ _ e)) (c .before .before .before .before .before .before .before .before .before .if4 .left),
+      passed (c .before .before .before .before .before .before .before .continuable .ensures p (c .before .before .before .before .before .before .before .before .zone-shown .ensures p _ _ e) (reversible-seen p _ _ e)) (c .before .before .before .before .before .before .if5 .left),
       eq-eqb _ _ (sym (c .before .before .before .before .before .routing-address .ensures) ∙ c .before .before .before .before .if6 .left),
       passed (c .before .before .before .legal-string .ensures) (c .before .before .if7 .left),
       failed (c .before .not-own .ensures) (c .if8 .taken),
@@ -128,14 +133,14 @@ both-legal-requires c κs = search needs
 
 returns-9 : tie.Need-returns-9
 unfolding continuedOutcomeBy
-returns-9 c =
+returns-9 c p e =
     rw (
-      ← c .before .before .before .before .before .before .before .before .before .before .before .before .before .before .before .before .before .box-address .ensures,
-      passed {b = c .before .before .before .before .before .before .before .before .before .before .before .before .before .before .before .before .before .before .before .args .kept} refl (c .before .before .before .before .before .before .before .before .before .before .before .before .before .before .before .before .if1 .left),
-      passed (c .before .before .before .before .before .before .before .before .before .before .before .before .before .before .before .type-exists .ensures) (c .before .before .before .before .before .before .before .before .before .before .before .before .before .before .if2 .left),
-      passed (c .before .before .before .before .before .before .before .before .before .before .before .before .before .makes-more .ensures) (c .before .before .before .before .before .before .before .before .before .before .before .before .if3 .left),
-      passed (c .before .before .before .before .before .before .before .before .before .before .before .address-held .ensures) (c .before .before .before .before .before .before .before .before .before .before .if4 .left),
-      passed (c .before .before .before .before .before .before .before .before .before .continuable .ensures) (c .before .before .before .before .before .before .before .before .if5 .left),
+      ← c .before .before .before .before .before .before .before .before .before .before .before .before .before .before .before .before .before .before .box-address .ensures,
+      passed {b = c .before .before .before .before .before .before .before .before .before .before .before .before .before .before .before .before .before .before .before .before .before .before .args .kept} refl (c .before .before .before .before .before .before .before .before .before .before .before .before .before .before .before .before .before .if1 .left),
+      passed (c .before .before .before .before .before .before .before .before .before .before .before .before .before .before .before .before .type-exists .ensures p (existing-seen p _ _ e)) (c .before .before .before .before .before .before .before .before .before .before .before .before .before .before .before .if2 .left),
+      passed (c .before .before .before .before .before .before .before .before .before .before .before .before .before .before .makes-more .ensures) (c .before .before .before .before .before .before .before .before .before .before .before .before .before .if3 .left),
+      passed (c .before .before .before .before .before .before .before .before .before .before .before .before .address-held .ensures p (seen-first p _ _ e)) (c .before .before .before .before .before .before .before .before .before .before .before .if4 .left),
+      passed (c .before .before .before .before .before .before .before .before .before .continuable .ensures p (c .before .before .before .before .before .before .before .before .before .before .zone-shown .ensures p _ _ e) (reversible-seen p _ _ e)) (c .before .before .before .before .before .before .before .before .if5 .left),
       eq-eqb _ _ (sym (c .before .before .before .before .before .before .before .routing-address .ensures) ∙ c .before .before .before .before .before .before .if6 .left),
       passed (c .before .before .before .before .before .legal-string .ensures) (c .before .before .before .before .if7 .left),
       passed (c .before .before .before .not-own .ensures) (c .before .before .if8 .left),
@@ -144,14 +149,14 @@ returns-9 c =
 
 returns-10 : tie.Need-returns-10
 unfolding continuedOutcomeBy
-returns-10 c =
+returns-10 c p e =
     rw (
-      ← c .before .before .before .before .before .before .before .before .before .before .before .before .before .before .before .before .before .box-address .ensures,
-      passed {b = c .before .before .before .before .before .before .before .before .before .before .before .before .before .before .before .before .before .before .before .args .kept} refl (c .before .before .before .before .before .before .before .before .before .before .before .before .before .before .before .before .if1 .left),
-      passed (c .before .before .before .before .before .before .before .before .before .before .before .before .before .before .before .type-exists .ensures) (c .before .before .before .before .before .before .before .before .before .before .before .before .before .before .if2 .left),
-      passed (c .before .before .before .before .before .before .before .before .before .before .before .before .before .makes-more .ensures) (c .before .before .before .before .before .before .before .before .before .before .before .before .if3 .left),
-      passed (c .before .before .before .before .before .before .before .before .before .before .before .address-held .ensures) (c .before .before .before .before .before .before .before .before .before .before .if4 .left),
-      passed (c .before .before .before .before .before .before .before .before .before .continuable .ensures) (c .before .before .before .before .before .before .before .before .if5 .left),
+      ← c .before .before .before .before .before .before .before .before .before .before .before .before .before .before .before .before .before .before .box-address .ensures,
+      passed {b = c .before .before .before .before .before .before .before .before .before .before .before .before .before .before .before .before .before .before .before .before .before .before .args .kept} refl (c .before .before .before .before .before .before .before .before .before .before .before .before .before .before .before .before .before .if1 .left),
+      passed (c .before .before .before .before .before .before .before .before .before .before .before .before .before .before .before .before .type-exists .ensures p (existing-seen p _ _ e)) (c .before .before .before .before .before .before .before .before .before .before .before .before .before .before .before .if2 .left),
+      passed (c .before .before .before .before .before .before .before .before .before .before .before .before .before .before .makes-more .ensures) (c .before .before .before .before .before .before .before .before .before .before .before .before .before .if3 .left),
+      passed (c .before .before .before .before .before .before .before .before .before .before .before .before .address-held .ensures p (seen-first p _ _ e)) (c .before .before .before .before .before .before .before .before .before .before .before .if4 .left),
+      passed (c .before .before .before .before .before .before .before .before .before .continuable .ensures p (c .before .before .before .before .before .before .before .before .before .before .zone-shown .ensures p _ _ e) (reversible-seen p _ _ e)) (c .before .before .before .before .before .before .before .before .if5 .left),
       eq-eqb _ _ (sym (c .before .before .before .before .before .before .before .routing-address .ensures) ∙ c .before .before .before .before .before .before .if6 .left),
       passed (c .before .before .before .before .before .legal-string .ensures) (c .before .before .before .before .if7 .left),
       passed (c .before .before .before .not-own .ensures) (c .before .before .if8 .left),
@@ -170,6 +175,7 @@ continued-outcome-spec =
     returns-3
     address-held-requires
     returns-4
+    zone-shown-requires
     continuable-requires
     returns-5
     routing-address-requires

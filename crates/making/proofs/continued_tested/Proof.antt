@@ -1,46 +1,33 @@
--- `making::continued_tested` meets its contract. Assumes nothing.
-use mathlib.Core.Path.{_≡_, ap, ap₂, _∙_}
-use Rattle.making.specs.Making.{boxAddress, continuedSetup, continuedOutcomeBy, answered, continuedAnswerBy}
-use Rattle.making.proofs.Outcomes.{answered-alike, legal-all, continued-made-by}
-use mathlib.Core.List.{List}
-use Prim.Native.Nat.{ℕ}
-use lib.ListN.{take}
+-- `making::continued_tested` meets its contract: it looks at the plan, and hands on what it has seen. Assumes nothing.
+use mathlib.Core.Path.{sym, ap₂, _∙_}
+use Rattle.plan.specs.Find.{seen}
 use borrow.Author.Needs.{needs}
 use Rattle.making.proofs.continued_tested.Statement.{statement}
 use Rattle.making.proofs.continued_tested.Tie as tie
 
-continued-outcome-requires : tie.Need-continued-outcome-requires
-continued-outcome-requires c κs = search needs
-
 box-address-requires : tie.Need-box-address-requires
 box-address-requires c κs = search needs
 
-continued-of-requires : tie.Need-continued-of-requires
-continued-of-requires c κs = search needs
+routing-address-requires : tie.Need-routing-address-requires
+routing-address-requires c κs = search needs
 
-answered-requires : tie.Need-answered-requires
-answered-requires c κs = search needs
+look-requires : tie.Need-look-requires
+look-requires c κs = search needs
+
+continued-seen-requires : tie.Need-continued-seen-requires
+continued-seen-requires c κs = search needs
 
 returns : tie.Need-returns
 returns c =
-    let a = c .before .before .before .before .before .args in
-    let s = a .string .now in
-    let outcome = c .before .before .before .continued-outcome .ensures in
-    let made : c .before .continued-of .result ≡ continuedSetup (boxAddress (a .maker)) (a .s) (a .source-arg) (take 32 s) (a .target-arg) = rw (← c .before .before .box-address .ensures) (c .before .continued-of .ensures) in
-    let exact : c .answered .result ≡ continuedAnswerBy (a .kept) (a .plan) (a .maker) (a .s) (a .source-arg) s (a .target-arg) =
-    c .answered .ensures
-    ∙ ap₂ answered outcome made
-    ∙ answered-alike (continuedOutcomeBy (a .kept) (a .plan) (a .maker) (a .s) (a .source-arg) s (a .target-arg)) _ _ (λ e.
-    ap (λ (l : List ℕ). continuedSetup (boxAddress (a .maker)) (a .s) (a .source-arg) l (a .target-arg))
-    (legal-all s (continued-made-by (a .kept) (a .plan) (a .maker) (a .s) (a .source-arg) s (a .target-arg) e .string-legal))) in
-    exact
+    let p = c .before .before .before .before .before .args .plan in
+    c .continued-seen .ensures p (sym (c .before .look .ensures ∙ ap₂ (seen p) (c .before .before .before .box-address .ensures) (c .before .before .routing-address .ensures)))
 
 pub continued-tested-spec : {M : Type 1} → statement M
 continued-tested-spec =
     tie.close
     (tie.spec
-    continued-outcome-requires
     box-address-requires
-    continued-of-requires
-    answered-requires
+    routing-address-requires
+    look-requires
+    continued-seen-requires
     returns)

@@ -1,40 +1,24 @@
--- `making::new_tested` meets its contract. Assumes nothing.
-use mathlib.Core.Path.{_≡_, ap, ap₂, _∙_}
-use Rattle.making.specs.Making.{boxAddress, newSetup, newOutcomeBy, answered, newAnswerBy}
-use Rattle.making.proofs.Outcomes.{answered-alike, legal-all, new-made-by}
-use mathlib.Core.List.{List}
+-- `making::new_tested` meets its contract: it looks at the plan, and hands on what it has seen. Assumes nothing.
+use mathlib.Core.Path.{sym, ap, _∙_}
 use Prim.Native.Nat.{ℕ}
-use lib.ListN.{take}
+use Rattle.plan.specs.Find.{seen}
 use borrow.Author.Needs.{needs}
 use Rattle.making.proofs.new_tested.Statement.{statement}
 use Rattle.making.proofs.new_tested.Tie as tie
 
-new-outcome-requires : tie.Need-new-outcome-requires
-new-outcome-requires c κs = search needs
-
 box-address-requires : tie.Need-box-address-requires
 box-address-requires c κs = search needs
 
-new-of-requires : tie.Need-new-of-requires
-new-of-requires c κs = search needs
+look-requires : tie.Need-look-requires
+look-requires c κs = search needs
 
-answered-requires : tie.Need-answered-requires
-answered-requires c κs = search needs
+new-seen-requires : tie.Need-new-seen-requires
+new-seen-requires c κs = search needs
 
 returns : tie.Need-returns
 returns c =
-    let a = c .before .before .before .before .before .args in
-    let s = a .string .now in
-    let outcome = c .before .before .before .new-outcome .ensures in
-    let made : c .before .new-of .result ≡ newSetup (boxAddress (a .maker)) (take 32 s) (a .target-arg) = rw (← c .before .before .box-address .ensures) (c .before .new-of .ensures) in
-    let exact : c .answered .result ≡ newAnswerBy (a .kept) (a .plan) (a .maker) s (a .target-arg) =
-    c .answered .ensures
-    ∙ ap₂ answered outcome made
-    ∙ answered-alike (newOutcomeBy (a .kept) (a .plan) (a .maker) s (a .target-arg)) _ _ (λ e.
-    ap (λ (l : List ℕ). newSetup (boxAddress (a .maker)) l (a .target-arg)) (legal-all s (new-made-by (a .kept) (a .plan) (a .maker) s (a .target-arg) e .string-legal))) in
-    exact
+    let p = c .before .before .before .before .args .plan in
+    c .new-seen .ensures p 0 (sym (c .before .look .ensures ∙ ap (λ (a : ℕ). seen p a 0) (c .before .before .box-address .ensures)))
 
 pub new-tested-spec : {M : Type 1} → statement M
-new-tested-spec =
-    tie.close
-    (tie.spec new-outcome-requires box-address-requires new-of-requires answered-requires returns)
+new-tested-spec = tie.close (tie.spec box-address-requires look-requires new-seen-requires returns)

@@ -1,50 +1,33 @@
--- `making::reversed_tested` meets its contract. Assumes nothing.
-use mathlib.Core.Path.{_≡_, ap, ap₂, _∙_}
-use Rattle.making.specs.Making.{boxAddress, boxType, reversedSetup, reversedOutcomeBy, answered, reversedAnswerBy}
-use Rattle.making.proofs.Outcomes.{answered-alike, legal-all, reversed-made-by}
-use mathlib.Core.List.{List}
-use Prim.Native.Nat.{ℕ}
-use lib.ListN.{take}
+-- `making::reversed_tested` meets its contract: it looks at the plan, and hands on what it has seen. Assumes nothing.
+use mathlib.Core.Path.{sym, ap₂, _∙_}
+use Rattle.plan.specs.Find.{seen}
 use borrow.Author.Needs.{needs}
 use Rattle.making.proofs.reversed_tested.Statement.{statement}
 use Rattle.making.proofs.reversed_tested.Tie as tie
 
-reversed-outcome-requires : tie.Need-reversed-outcome-requires
-reversed-outcome-requires c κs = search needs
-
-box-type-requires : tie.Need-box-type-requires
-box-type-requires c κs = search needs
-
 box-address-requires : tie.Need-box-address-requires
 box-address-requires c κs = search needs
 
-reversed-of-requires : tie.Need-reversed-of-requires
-reversed-of-requires c κs = search needs
+routing-address-requires : tie.Need-routing-address-requires
+routing-address-requires c κs = search needs
 
-answered-requires : tie.Need-answered-requires
-answered-requires c κs = search needs
+look-requires : tie.Need-look-requires
+look-requires c κs = search needs
+
+reversed-seen-requires : tie.Need-reversed-seen-requires
+reversed-seen-requires c κs = search needs
 
 returns : tie.Need-returns
 returns c =
-    let a = c .before .before .before .before .before .before .args in
-    let s = a .string .now in
-    let outcome = c .before .before .before .before .reversed-outcome .ensures in
-    let made : c .before .reversed-of .result ≡ reversedSetup (boxType (a .maker)) (boxAddress (a .maker)) (a .s) (a .source-arg) (take 32 s) (a .target-arg) = rw (← c .before .before .before .box-type .ensures, ← c .before .before .box-address .ensures) (c .before .reversed-of .ensures) in
-    let exact : c .answered .result ≡ reversedAnswerBy (a .kept) (a .plan) (a .maker) (a .s) (a .source-arg) s (a .target-arg) =
-    c .answered .ensures
-    ∙ ap₂ answered outcome made
-    ∙ answered-alike (reversedOutcomeBy (a .kept) (a .plan) (a .maker) (a .s) (a .source-arg) s (a .target-arg)) _ _ (λ e.
-    ap (λ (l : List ℕ). reversedSetup (boxType (a .maker)) (boxAddress (a .maker)) (a .s) (a .source-arg) l (a .target-arg))
-    (legal-all s (reversed-made-by (a .kept) (a .plan) (a .maker) (a .s) (a .source-arg) s (a .target-arg) e .string-legal))) in
-    exact
+    let p = c .before .before .before .before .before .args .plan in
+    c .reversed-seen .ensures p (sym (c .before .look .ensures ∙ ap₂ (seen p) (c .before .before .before .box-address .ensures) (c .before .before .routing-address .ensures)))
 
 pub reversed-tested-spec : {M : Type 1} → statement M
 reversed-tested-spec =
     tie.close
     (tie.spec
-    reversed-outcome-requires
-    box-type-requires
     box-address-requires
-    reversed-of-requires
-    answered-requires
+    routing-address-requires
+    look-requires
+    reversed-seen-requires
     returns)

@@ -16,7 +16,7 @@ has-requires : tie.Need-has-requires
 has-requires c κs = search needs
 
 returns : tie.Need-returns
-returns c = c .has .ensures ∙ ap (λ (t : ℕ). has t (c .before .before .before .args .plan .types .reversible)) (c .before .box-type .ensures)
+returns c = c .has .ensures ∙ ap (λ (t : ℕ). has t (c .before .before .args .reversible)) (c .before .box-type .ensures)
 
 pub reversible-type-spec : {M : Type 1} → statement M
 reversible-type-spec = tie.close (tie.spec box-type-requires cast-has has-requires returns)

@@ -1,6 +1,4 @@
 -- `making::type_exists` meets its contract. Assumes nothing.
-use mathlib.Core.Path.{sym, ap, _∙_}
-use Rattle.making.specs.Making.{typeExists}
 use borrow.Author.Needs.{needs}
 use Rattle.making.proofs.type_exists.Statement.{statement}
 use Rattle.making.proofs.type_exists.Tie as tie
@@ -27,19 +25,19 @@ enum-told-4 : tie.Need-enum-told-4
 enum-told-4 c = search needs
 
 returns : tie.Need-returns
-returns c = c .has .ensures ∙ sym (ap (typeExists _) (c .before .before .maker .given .1))
+returns c p e = rw (c .before .before .maker .given .1, e) (c .has .ensures)
 
 returns-2 : tie.Need-returns-2
-returns-2 c = search needs
+returns-2 c p e = rw (c .enum-told .given .1)
 
 returns-3 : tie.Need-returns-3
-returns-3 c = search needs
+returns-3 c p e = rw (c .enum-told2 .given .1)
 
 returns-4 : tie.Need-returns-4
-returns-4 c = search needs
+returns-4 c p e = rw (c .enum-told3 .given .1)
 
 returns-5 : tie.Need-returns-5
-returns-5 c = search needs
+returns-5 c p e = rw (c .enum-told4 .given .1)
 
 pub type-exists-spec : {M : Type 1} → statement M
 type-exists-spec =

@@ -1,0 +1,46 @@
+-- `making::continued_seen` meets its contract. Assumes nothing.
+use mathlib.Core.Path.{_≡_, ap, ap₂, _∙_}
+use Rattle.making.specs.Making.{boxAddress, continuedSetup, continuedOutcomeBy, answered, continuedAnswerBy}
+use Rattle.making.proofs.Outcomes.{answered-alike, legal-all, continued-made-by}
+use mathlib.Core.List.{List}
+use Prim.Native.Nat.{ℕ}
+use lib.ListN.{take}
+use borrow.Author.Needs.{needs}
+use Rattle.making.proofs.continued_seen.Statement.{statement}
+use Rattle.making.proofs.continued_seen.Tie as tie
+
+continued-outcome-requires : tie.Need-continued-outcome-requires
+continued-outcome-requires c κs = search needs
+
+box-address-requires : tie.Need-box-address-requires
+box-address-requires c κs = search needs
+
+continued-of-requires : tie.Need-continued-of-requires
+continued-of-requires c κs = search needs
+
+answered-requires : tie.Need-answered-requires
+answered-requires c κs = search needs
+
+returns : tie.Need-returns
+returns c p shows =
+    let a = c .before .before .before .before .before .args in
+    let s = a .string .now in
+    let outcome = c .before .before .before .continued-outcome .ensures p shows in
+    let made : c .before .continued-of .result ≡ continuedSetup (boxAddress (a .maker)) (a .s) (a .source-arg) (take 32 s) (a .target-arg) = rw (← c .before .before .box-address .ensures) (c .before .continued-of .ensures) in
+    let exact : c .answered .result ≡ continuedAnswerBy (a .kept) p (a .maker) (a .s) (a .source-arg) s (a .target-arg) =
+    c .answered .ensures
+    ∙ ap₂ answered outcome made
+    ∙ answered-alike (continuedOutcomeBy (a .kept) p (a .maker) (a .s) (a .source-arg) s (a .target-arg)) _ _ (λ e.
+    ap (λ (l : List ℕ). continuedSetup (boxAddress (a .maker)) (a .s) (a .source-arg) l (a .target-arg))
+    (legal-all s (continued-made-by (a .kept) p (a .maker) (a .s) (a .source-arg) s (a .target-arg) e .string-legal))) in
+    exact
+
+pub continued-seen-spec : {M : Type 1} → statement M
+continued-seen-spec =
+    tie.close
+    (tie.spec
+    continued-outcome-requires
+    box-address-requires
+    continued-of-requires
+    answered-requires
+    returns)
