@@ -9,11 +9,14 @@ use denote.Ref.{RefT}
 use denote.Triple.Clauses.{AtExit}
 use borrow.Fn.Kinds.{endedOf}
 use Rattle.plan.specs.declared.Plan.{Plan}
+use Rattle.plan.specs.declared.Seen.{Seen}
+use Rattle.plan.specs.Find.{seen}
 use Rattle.setup.specs.declared.Setup.{Setup}
 use Rattle.call.specs.declared.Answer.{Answer}
 use Rattle.call.specs.declared.Answer.the-variants.{Accepted}
 use Rattle.call.specs.declared.Command.{Command}
 use Rattle.call.specs.Row.{Reply, placed-at, says}
+use Rattle.routing.specs.Steps.{target1}
 use Rattle.placing.specs.declared.Placed.{Placed}
 use Rattle.rowbytes.proofs.lowest_free.Reads as lowest-free
 use Rattle.rowbytes.proofs.lowest_free.Kinds as lowest-free-kinds
@@ -45,16 +48,25 @@ pub command-exact : (κs : Lfts 1) (row : RefT (List ℕ)) (i u : ℕ) (k : Comm
 unfolding answerOf
 command-exact κs row i u k end end′ r s p q = (ap answerOf (p .0 ∙ sym (q .0)), p .1 ∙ sym (q .1))
 
-pub place-exact : (κs : Lfts 3) (kept : Bool) (row : RefT (List ℕ)) (plan : Plan) (x : Setup) (sources targets : RefT (List ℕ)) (end end′ : AtExit (endedOf 3 place-kinds.ps place-kinds.r) κs) (r s : Placed)
-    → place.Post κs (kept, (row, (plan, (x, (sources, (targets, tt)))))) r end → place.Post κs (kept, (row, (plan, (x, (sources, (targets, tt)))))) s end′
+-- where some plan shows it
+pub place-exact : (κs : Lfts 3) (kept : Bool) (row : RefT (List ℕ)) (v : Seen) (x : Setup) (sources targets : RefT (List ℕ)) (end end′ : AtExit (endedOf 3 place-kinds.ps place-kinds.r) κs) (r s : Placed)
+    → place.Post κs (kept, (row, (v, (x, (sources, (targets, tt)))))) r end → place.Post κs (kept, (row, (v, (x, (sources, (targets, tt)))))) s end′
+    → (plan : Plan) → seen plan (x .source) (target1 x) ≡ v
     → (r ≡ s) × (end .1 .0 .now ≡ end′ .1 .0 .now) × (end .1 .1 .1 .1 .0 .now ≡ end′ .1 .1 .1 .1 .0 .now) × (end .1 .1 .1 .1 .1 .0 .now ≡ end′ .1 .1 .1 .1 .1 .0 .now)
-place-exact κs kept row plan x sources targets end end′ r s p q = (p .0 ∙ sym (q .0), p .1 ∙ sym (q .1), p .3 ∙ sym (q .3), p .4 ∙ sym (q .4))
+place-exact κs kept row v x sources targets end end′ r s p q plan shows =
+    let of-p = p plan shows in
+    let of-q = q plan shows in
+    (of-p .0 ∙ sym (of-q .0), of-p .1 ∙ sym (of-q .1), of-p .3 ∙ sym (of-q .3), of-p .4 ∙ sym (of-q .4))
 
 pub port-command-exact : (κs : Lfts 1) (port : RefT (List ℕ)) (k : Command) (end end′ : AtExit (endedOf 1 port-command-kinds.ps port-command-kinds.r) κs) (r s : Answer)
     → port-command.Post κs (port, (k, tt)) r end → port-command.Post κs (port, (k, tt)) s end′ → (r ≡ s) × (end .0 .now ≡ end′ .0 .now)
 port-command-exact κs port k end end′ r s p q = (p .0 ∙ sym (q .0), p .1 ∙ sym (q .1))
 
-pub port-place-exact : (κs : Lfts 3) (kept : Bool) (port : RefT (List ℕ)) (plan : Plan) (x : Setup) (sources targets : RefT (List ℕ)) (end end′ : AtExit (endedOf 3 port-place-kinds.ps port-place-kinds.r) κs) (r s : Placed)
-    → port-place.Post κs (kept, (port, (plan, (x, (sources, (targets, tt)))))) r end → port-place.Post κs (kept, (port, (plan, (x, (sources, (targets, tt)))))) s end′
+pub port-place-exact : (κs : Lfts 3) (kept : Bool) (port : RefT (List ℕ)) (v : Seen) (x : Setup) (sources targets : RefT (List ℕ)) (end end′ : AtExit (endedOf 3 port-place-kinds.ps port-place-kinds.r) κs) (r s : Placed)
+    → port-place.Post κs (kept, (port, (v, (x, (sources, (targets, tt)))))) r end → port-place.Post κs (kept, (port, (v, (x, (sources, (targets, tt)))))) s end′
+    → (plan : Plan) → seen plan (x .source) (target1 x) ≡ v
     → (r ≡ s) × (end .1 .0 .now ≡ end′ .1 .0 .now) × (end .1 .1 .1 .1 .0 .now ≡ end′ .1 .1 .1 .1 .0 .now) × (end .1 .1 .1 .1 .1 .0 .now ≡ end′ .1 .1 .1 .1 .1 .0 .now)
-port-place-exact κs kept port plan x sources targets end end′ r s p q = (p .0 ∙ sym (q .0), p .1 ∙ sym (q .1), p .3 ∙ sym (q .3), p .4 ∙ sym (q .4))
+port-place-exact κs kept port v x sources targets end end′ r s p q plan shows =
+    let of-p = p plan shows in
+    let of-q = q plan shows in
+    (of-p .0 ∙ sym (of-q .0), of-p .1 ∙ sym (of-q .1), of-p .3 ∙ sym (of-q .3), of-p .4 ∙ sym (of-q .4))

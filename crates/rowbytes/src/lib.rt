@@ -6,7 +6,7 @@ use call::Command;
 use call::Step;
 use exchange::Taken;
 use placing::Placed;
-use plan::Plan;
+use plan::Seen;
 use refusal::Refusal;
 use routing::Outcome;
 use setup::Setup;
@@ -15,6 +15,9 @@ ghost use mathlib.Core.Bool.{cond};
 ghost use mathlib.Core.List.{[], _∷_};
 ghost use Prim.Native.Nat.{_+_, _*_, _/_, _<_, _≤_};
 ghost use lib.ListN.{length, replicate};
+ghost use Rattle.plan.specs.declared.Plan.{Plan};
+ghost use Rattle.plan.specs.Find.{seen};
+ghost use Rattle.routing.specs.Steps.{target1};
 ghost use Rattle.routing.specs.Routing.{sourceList, targetList};
 ghost use Rattle.call.specs.Protocol.{isFree, step, cleared};
 ghost use Rattle.call.specs.History.{accepted};
@@ -150,25 +153,26 @@ fn keep(row: &mut [u8], r: usize, a: routing::Answer, c: Call)
     }
 }
 
-// A call is placed in the row's lowest free record, by a verdict on the plan, which the caller has: `kept` says whether the plan is sound.
+// A call is placed in the row's lowest free record, by what a plan shows of the setup's source and of its target after step 1, and by a verdict on the plan: `kept` says whether it is sound.
 pub fn place(
     kept: bool,
     row: &mut [u8],
-    plan: Plan,
+    v: Seen,
     out: Setup,
     source_list: &mut [u8],
     target_list: &mut [u8],
 ) -> Placed
-    ensures { λ z. ⌜ (z ≡ placedInBy kept (rowIn (now (row .entry))) plan out (length (now («source_list» .entry))) (length (now («target_list» .entry))))
-        × (now (row .exit) ≡ after (now (row .entry)) (lowestFree (rowIn (now (row .entry)))) (turned (rowIn (now (row .entry))) (outcomeInBy kept (rowIn (now (row .entry))) plan out (length (now («source_list» .entry))) (length (now («target_list» .entry))))))
-        × (rowIn (now (row .exit)) ≡ rowAfterBy kept (rowIn (now (row .entry))) plan out (length (now («source_list» .entry))) (length (now («target_list» .entry))))
-        × (now («source_list» .exit) ≡ sourceList plan out (outcomeInBy kept (rowIn (now (row .entry))) plan out (length (now («source_list» .entry))) (length (now («target_list» .entry)))) (now («source_list» .entry)))
-        × (now («target_list» .exit) ≡ targetList plan out (outcomeInBy kept (rowIn (now (row .entry))) plan out (length (now («source_list» .entry))) (length (now («target_list» .entry)))) (now («target_list» .entry))) ⌝ }
+    ensures { λ z. ⌜ ((p : Plan) → seen p (out .source) (target1 out) ≡ v
+        → (z ≡ placedInBy kept (rowIn (now (row .entry))) p out (length (now («source_list» .entry))) (length (now («target_list» .entry))))
+        × (now (row .exit) ≡ after (now (row .entry)) (lowestFree (rowIn (now (row .entry)))) (turned (rowIn (now (row .entry))) (outcomeInBy kept (rowIn (now (row .entry))) p out (length (now («source_list» .entry))) (length (now («target_list» .entry))))))
+        × (rowIn (now (row .exit)) ≡ rowAfterBy kept (rowIn (now (row .entry))) p out (length (now («source_list» .entry))) (length (now («target_list» .entry))))
+        × (now («source_list» .exit) ≡ sourceList p out (outcomeInBy kept (rowIn (now (row .entry))) p out (length (now («source_list» .entry))) (length (now («target_list» .entry)))) (now («source_list» .entry)))
+        × (now («target_list» .exit) ≡ targetList p out (outcomeInBy kept (rowIn (now (row .entry))) p out (length (now («source_list» .entry))) (length (now («target_list» .entry)))) (now («target_list» .entry)))) ⌝ }
 {
     let n = row.len() / 102;
     let r = lowest_free(row);
     let later = placing::later_for(n, r);
-    let a = routing::route_tested(kept, plan, out, later, source_list, target_list);
+    let a = routing::route_seen(kept, v, out, later, source_list, target_list);
     let t = taken_at(row, r);
     let c = t.call;
     keep(row, r, a, c);
@@ -212,24 +216,25 @@ fn port_keep(port: &mut [u8; 102], a: routing::Answer, c: Call)
     }
 }
 
-// A call is placed in the port's record, as in a row of one, by a verdict on the plan.
+// A call is placed in the port's record, as in a row of one, by what a plan shows and a verdict on it.
 pub fn port_place(
     kept: bool,
     port: &mut [u8; 102],
-    plan: Plan,
+    v: Seen,
     out: Setup,
     source_list: &mut [u8],
     target_list: &mut [u8],
 ) -> Placed
-    ensures { λ z. ⌜ (z ≡ placedInBy kept (callIn (now (port .entry)) ∷ []) plan out (length (now («source_list» .entry))) (length (now («target_list» .entry))))
-        × (now (port .exit) ≡ portAfter (now (port .entry)) (turned (callIn (now (port .entry)) ∷ []) (outcomeInBy kept (callIn (now (port .entry)) ∷ []) plan out (length (now («source_list» .entry))) (length (now («target_list» .entry))))))
-        × (callIn (now (port .exit)) ≡ recordAt (rowAfterBy kept (callIn (now (port .entry)) ∷ []) plan out (length (now («source_list» .entry))) (length (now («target_list» .entry)))) 0)
-        × (now («source_list» .exit) ≡ sourceList plan out (outcomeInBy kept (callIn (now (port .entry)) ∷ []) plan out (length (now («source_list» .entry))) (length (now («target_list» .entry)))) (now («source_list» .entry)))
-        × (now («target_list» .exit) ≡ targetList plan out (outcomeInBy kept (callIn (now (port .entry)) ∷ []) plan out (length (now («source_list» .entry))) (length (now («target_list» .entry)))) (now («target_list» .entry))) ⌝ }
+    ensures { λ z. ⌜ ((p : Plan) → seen p (out .source) (target1 out) ≡ v
+        → (z ≡ placedInBy kept (callIn (now (port .entry)) ∷ []) p out (length (now («source_list» .entry))) (length (now («target_list» .entry))))
+        × (now (port .exit) ≡ portAfter (now (port .entry)) (turned (callIn (now (port .entry)) ∷ []) (outcomeInBy kept (callIn (now (port .entry)) ∷ []) p out (length (now («source_list» .entry))) (length (now («target_list» .entry))))))
+        × (callIn (now (port .exit)) ≡ recordAt (rowAfterBy kept (callIn (now (port .entry)) ∷ []) p out (length (now («source_list» .entry))) (length (now («target_list» .entry)))) 0)
+        × (now («source_list» .exit) ≡ sourceList p out (outcomeInBy kept (callIn (now (port .entry)) ∷ []) p out (length (now («source_list» .entry))) (length (now («target_list» .entry)))) (now («source_list» .entry)))
+        × (now («target_list» .exit) ≡ targetList p out (outcomeInBy kept (callIn (now (port .entry)) ∷ []) p out (length (now («source_list» .entry))) (length (now («target_list» .entry)))) (now («target_list» .entry)))) ⌝ }
 {
     let c = port_in(*port);
     let later = placing::port_later(c);
-    let a = routing::route_tested(kept, plan, out, later, source_list, target_list);
+    let a = routing::route_seen(kept, v, out, later, source_list, target_list);
     port_keep(port, a, c);
     placing::answer_for(a, 0, c)
 }

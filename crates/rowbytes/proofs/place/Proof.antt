@@ -14,8 +14,8 @@ lowest-free-requires c κs = search needs
 later-for-requires : tie.Need-later-for-requires
 later-for-requires c κs = search needs
 
-route-tested-requires : tie.Need-route-tested-requires
-route-tested-requires c κs = search needs
+route-seen-requires : tie.Need-route-seen-requires
+route-seen-requires c κs = search needs
 
 taken-at-requires : tie.Need-taken-at-requires
 taken-at-requires c κs = search needs
@@ -36,14 +36,16 @@ same-length-3 : tie.Need-same-length-3
 same-length-3 c = search needs
 
 returns : tie.Need-returns
-returns c =
-    let o = outcome-is (c .before .before .before .before .before .before .before .before .before .before .before .before .before .before .before .before .before .before .before .before .before .args .kept) (c .before .before .before .before .before .before .before .before .before .before .before .before .before .before .before .before .before .before .before .before .before .args .row .now) (c .before .before .before .before .before .before .before .before .before .before .before .before .before .before .before .before .before .before .before .before .before .args .plan) (c .before .before .before .before .before .before .before .before .before .before .before .before .before .before .before .before .before .before .before .before .before .args .out) (length (c .before .before .before .before .before .before .before .before .before .before .before .before .before .before .before .before .before .before .before .before .before .args .source-list .now)) (length (c .before .before .before .before .before .before .before .before .before .before .before .before .before .before .before .before .before .before .before .before .before .args .target-list .now)) (c .before .before .before .before .before .before .before .before .before .before .before .before .before .before .before .before .lowest-free .ensures) (c .before .before .before .before .before .before .before .before .before .before .before .before .before .before .before .later-for .ensures) (c .before .before .before .before .before .before .before .before .before .before .before .before .route-tested .ensures .0) in
-    let placed = place-is (c .before .before .before .before .before .before .before .before .before .before .before .before .before .before .before .before .before .before .before .before .before .args .kept) (c .before .before .before .before .before .before .before .before .before .before .before .before .before .before .before .before .before .before .before .before .before .args .row .now) (c .before .before .before .before .before .before .before .before .before .before .before .before .before .before .before .before .before .before .before .before .before .args .plan) (c .before .before .before .before .before .before .before .before .before .before .before .before .before .before .before .before .before .before .before .before .before .args .out) (length (c .before .before .before .before .before .before .before .before .before .before .before .before .before .before .before .before .before .before .before .before .before .args .source-list .now)) (length (c .before .before .before .before .before .before .before .before .before .before .before .before .before .before .before .before .before .before .before .before .before .args .target-list .now)) (c .before .before .before .before .before .before .before .before .before .before .before .before .before .before .before .before .lowest-free .ensures) (c .before .before .before .before .before .before .before .before .before .before .before .before .before .before .before .later-for .ensures) (c .before .before .before .before .before .before .before .before .before .before .before .before .route-tested .ensures .0) (c .before .before .before .before .before .before .taken-at .ensures) (c .before .before .before .keep .ensures) (c .answer-for .ensures) in (
+returns c p shows =
+    let a = c .before .before .before .before .before .before .before .before .before .before .before .before .before .before .before .before .before .before .before .before .before .args in
+    let routed = c .before .before .before .before .before .before .before .before .before .before .before .before .route-seen .ensures p shows in
+    let o = outcome-is (a .kept) (a .row .now) p (a .out) (length (a .source-list .now)) (length (a .target-list .now)) (c .before .before .before .before .before .before .before .before .before .before .before .before .before .before .before .before .lowest-free .ensures) (c .before .before .before .before .before .before .before .before .before .before .before .before .before .before .before .later-for .ensures) (routed .0) in
+    let placed = place-is (a .kept) (a .row .now) p (a .out) (length (a .source-list .now)) (length (a .target-list .now)) (c .before .before .before .before .before .before .before .before .before .before .before .before .before .before .before .before .lowest-free .ensures) (c .before .before .before .before .before .before .before .before .before .before .before .before .before .before .before .later-for .ensures) (routed .0) (c .before .before .before .before .before .before .taken-at .ensures) (c .before .before .before .keep .ensures) (c .answer-for .ensures) in (
       placed .0,
       placed .1,
       placed .2,
-      c .before .before .before .before .before .before .before .before .before .before .before .before .route-tested .ensures .1 ∙ ap (λ (y : Outcome). sourceList (c .before .before .before .before .before .before .before .before .before .before .before .before .before .before .before .before .before .before .before .before .before .args .plan) (c .before .before .before .before .before .before .before .before .before .before .before .before .before .before .before .before .before .before .before .before .before .args .out) y (c .before .before .before .before .before .before .before .before .before .before .before .before .before .before .before .before .before .before .before .before .before .args .source-list .now)) o,
-      c .before .before .before .before .before .before .before .before .before .before .before .before .route-tested .ensures .2 ∙ ap (λ (y : Outcome). targetList (c .before .before .before .before .before .before .before .before .before .before .before .before .before .before .before .before .before .before .before .before .before .args .plan) (c .before .before .before .before .before .before .before .before .before .before .before .before .before .before .before .before .before .before .before .before .before .args .out) y (c .before .before .before .before .before .before .before .before .before .before .before .before .before .before .before .before .before .before .before .before .before .args .target-list .now)) o,
+      routed .1 ∙ ap (λ (y : Outcome). sourceList p (a .out) y (a .source-list .now)) o,
+      routed .2 ∙ ap (λ (y : Outcome). targetList p (a .out) y (a .target-list .now)) o,
     )
 
 pub place-spec : {M : Type 1} → statement M
@@ -52,7 +54,7 @@ place-spec =
     (tie.spec
     lowest-free-requires
     later-for-requires
-    route-tested-requires
+    route-seen-requires
     taken-at-requires
     keep-requires
     answer-for-requires

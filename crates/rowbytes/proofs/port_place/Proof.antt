@@ -14,8 +14,8 @@ port-in-requires c κs = search needs
 port-later-requires : tie.Need-port-later-requires
 port-later-requires c κs = search needs
 
-route-tested-requires : tie.Need-route-tested-requires
-route-tested-requires c κs = search needs
+route-seen-requires : tie.Need-route-seen-requires
+route-seen-requires c κs = search needs
 
 port-keep-requires : tie.Need-port-keep-requires
 port-keep-requires c κs = search needs
@@ -30,14 +30,16 @@ same-length-2 : tie.Need-same-length-2
 same-length-2 c = search needs
 
 returns : tie.Need-returns
-returns c =
-    let o = port-outcome-is (c .before .before .before .before .before .before .before .before .before .before .before .before .before .before .before .args .kept) (c .before .before .before .before .before .before .before .before .before .before .before .before .before .before .before .args .port .now) (c .before .before .before .before .before .before .before .before .before .before .before .before .before .before .before .args .plan) (c .before .before .before .before .before .before .before .before .before .before .before .before .before .before .before .args .out) (length (c .before .before .before .before .before .before .before .before .before .before .before .before .before .before .before .args .source-list .now)) (length (c .before .before .before .before .before .before .before .before .before .before .before .before .before .before .before .args .target-list .now)) (c .before .before .before .before .before .before .before .before .before .before .before .port-in .ensures) (c .before .before .before .before .before .before .before .before .before .before .port-later .ensures) (c .before .before .before .before .before .before .before .route-tested .ensures .0) in
-    let placed = port-place-is (c .before .before .before .before .before .before .before .before .before .before .before .before .before .before .before .args .kept) (c .before .before .before .before .before .before .before .before .before .before .before .before .before .before .before .args .port .now) (c .before .before .before .before .before .before .before .before .before .before .before .before .before .before .before .args .plan) (c .before .before .before .before .before .before .before .before .before .before .before .before .before .before .before .args .out) (length (c .before .before .before .before .before .before .before .before .before .before .before .before .before .before .before .args .source-list .now)) (length (c .before .before .before .before .before .before .before .before .before .before .before .before .before .before .before .args .target-list .now)) (c .before .before .before .before .before .before .before .before .before .before .before .port-in .ensures) (c .before .before .before .before .before .before .before .before .before .before .port-later .ensures) (c .before .before .before .before .before .before .before .route-tested .ensures .0) (c .before .port-keep .ensures) (c .answer-for .ensures) in (
+returns c p shows =
+    let a = c .before .before .before .before .before .before .before .before .before .before .before .before .before .before .before .args in
+    let routed = c .before .before .before .before .before .before .before .route-seen .ensures p shows in
+    let o = port-outcome-is (a .kept) (a .port .now) p (a .out) (length (a .source-list .now)) (length (a .target-list .now)) (c .before .before .before .before .before .before .before .before .before .before .before .port-in .ensures) (c .before .before .before .before .before .before .before .before .before .before .port-later .ensures) (routed .0) in
+    let placed = port-place-is (a .kept) (a .port .now) p (a .out) (length (a .source-list .now)) (length (a .target-list .now)) (c .before .before .before .before .before .before .before .before .before .before .before .port-in .ensures) (c .before .before .before .before .before .before .before .before .before .before .port-later .ensures) (routed .0) (c .before .port-keep .ensures) (c .answer-for .ensures) in (
       placed .0,
       placed .1,
       placed .2,
-      c .before .before .before .before .before .before .before .route-tested .ensures .1 ∙ ap (λ (y : Outcome). sourceList (c .before .before .before .before .before .before .before .before .before .before .before .before .before .before .before .args .plan) (c .before .before .before .before .before .before .before .before .before .before .before .before .before .before .before .args .out) y (c .before .before .before .before .before .before .before .before .before .before .before .before .before .before .before .args .source-list .now)) o,
-      c .before .before .before .before .before .before .before .route-tested .ensures .2 ∙ ap (λ (y : Outcome). targetList (c .before .before .before .before .before .before .before .before .before .before .before .before .before .before .before .args .plan) (c .before .before .before .before .before .before .before .before .before .before .before .before .before .before .before .args .out) y (c .before .before .before .before .before .before .before .before .before .before .before .before .before .before .before .args .target-list .now)) o,
+      routed .1 ∙ ap (λ (y : Outcome). sourceList p (a .out) y (a .source-list .now)) o,
+      routed .2 ∙ ap (λ (y : Outcome). targetList p (a .out) y (a .target-list .now)) o,
     )
 
 pub port-place-spec : {M : Type 1} → statement M
@@ -46,7 +48,7 @@ port-place-spec =
     (tie.spec
     port-in-requires
     port-later-requires
-    route-tested-requires
+    route-seen-requires
     port-keep-requires
     answer-for-requires
     same-length
