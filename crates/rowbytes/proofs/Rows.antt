@@ -2,20 +2,21 @@
 use mathlib.Core.Path.{_≡_, refl, sym, ap, ap₂, _∙_}
 use mathlib.Core.Bool.{Bool, true, false, cond, _&&_}
 use mathlib.Core.List.{List, [], _∷_, _++_, append-assoc}
-use Prim.Native.Nat.{ℕ, zero, suc, _+_, _*_, _-_, _/_, _≤_, _<_}
+use Prim.Native.Nat.{ℕ, zero, suc, _+_, _*_, _-_, _/_, _%_, _≤_, _<_}
 use native.Mathlib.Nat.{le-of-suc-le-suc, not-suc-le-zero}
 use native.Mathlib.Numerals.{add-one}
 use native.Mathlib.Omega.{arith}
-use lib.ListN.{length, getD, set, take, drop, replicate, length-append, length-set, length-drop, length-replicate, replicate-append-replicate, List·getD-eq-default}
-use lib.Seq.{sets, sets-eq, length-sets, length-take-le, drop-set-add, drop-at, take-append-le, take-take, drop-drop, drop-cons, set-at, set-out, getD-set-same}
-use lib.Dec.{ltb, eqb}
+use lib.ListN.{length, getD, set, take, drop, replicate, length-append, length-set, length-drop, length-replicate, getD-replicate, replicate-append-replicate, List·getD-eq-default}
+use lib.Seq.{sets, sets-eq, length-sets, length-take-le, set-set, set-comm, drop-set-add, drop-at, take-append-le, take-take, drop-drop, drop-cons, set-at, set-out, getD-set-same}
+use lib.Dec.{ltb, eqb, lit≤}
 use borrow.Author.Tests.{lt-ltb, le-ltb, ltb-true, ltb-false}
 use Rattle.call.specs.declared.Call.{Call}
-use Rattle.call.specs.Protocol.{cleared, isFree}
+use Rattle.ends.specs.declared.State.the-variants.{Requesting, Waiting}
+use Rattle.call.specs.Protocol.{cleared, isFree, quiet}
 use Rattle.call.specs.Row.{recordAt, lowestFree}
-use Rattle.exchange.specs.declared.Taken.{Taken}
-use Rattle.exchange.specs.Lent.{takenAt}
-use Rattle.planbytes.specs.Numbers.{high}
+use Rattle.planbytes.specs.Numbers.{high, number}
+use Rattle.planbytes.proofs.Numbers.{two-at}
+use Rattle.setupbytes.proofs.Stores.{put-next}
 use Rattle.callbytes.specs.Codec.{callBytes, slotsBytes, callIn, callAt, putAt, Fits}
 use Rattle.callbytes.proofs.Slots.{free-by-states}
 use Rattle.callbytes.proofs.RoundTrip.{call-length, there-and-back, own-bytes}
@@ -67,12 +68,19 @@ free-states b at h =
     let room : 102 ≤ length b - at = omega arith in
     rw (le-ltb (length b - at) 102 room) (free-by-states b at)
 
--- a record copied out, and whether the row has it
-pub taken-in : (b : List ℕ) (r : ℕ) {c : Call} → r < recordsIn b → c ≡ callAt b (102 * r) → record { inside = true; call = c } ≡ takenAt (rowIn b) r
-taken-in b r h e = rw (e, row-length b, lt-ltb r (recordsIn b) h, record-in b r h) refl
+-- the use number of a record, by its two bytes; a row that has no such record has 0 there
+pub use-in : (b : List ℕ) (r : ℕ) → r < recordsIn b → getD b (102 * r + 2) 0 * 256 + getD b (102 * r + 3) 0 ≡ recordAt (rowIn b) r .«use_number»
+unfolding callAt callIn
+use-in b r h =
+    let in-bytes : 102 * r + 102 ≤ length b = inside b r h in
+    let room : 102 ≤ length b - 102 * r = omega arith in
+    let next : 102 * r + 2 + 1 ≡ 102 * r + 3 = omega arith in
+    let read : callAt b (102 * r) .«use_number» ≡ number (take 2 (drop (102 * r + 2) b)) = rw (le-ltb (length b - 102 * r) 102 room, drop-drop 2 (102 * r) b) refl in
+    let bytes = rw next at (two-at b (102 * r + 2) (omega arith)) in
+    sym (sym (ap (λ (c : Call). c .«use_number») (record-in b r h)) ∙ read ∙ bytes)
 
-pub taken-past : (b : List ℕ) (r : ℕ) {c : Call} → recordsIn b ≤ r → c ≡ cleared → record { inside = false; call = c } ≡ takenAt (rowIn b) r
-taken-past b r h e = rw (e, row-length b, le-ltb r (recordsIn b) h, ← record-past b r h) refl
+pub use-past : (b : List ℕ) (r : ℕ) → recordsIn b ≤ r → 0 ≡ recordAt (rowIn b) r .«use_number»
+use-past b r h = ap (λ (c : Call). c .«use_number») (record-past b r h)
 
 -- ---- the lowest free one
 
@@ -199,6 +207,46 @@ put-in b r c h =
 pub put-past : (b : List ℕ) (r : ℕ) (c : Call) → recordsIn b ≤ r → b ≡ putIn b r c
 unfolding putIn
 put-past b r c h = rw (le-ltb r (recordsIn b) h) refl
+
+-- ---- a call placed
+
+-- a loop that stores 102 times 0: the next one
+pub blank-next : (b : List ℕ) (at i : ℕ) → i < 102
+    → sets b (at + i) (drop i (replicate 102 0)) ≡ sets (set b (at + i) 0) (at + (i + 1)) (drop (i + 1) (replicate 102 0))
+blank-next b at i h =
+    let below : i < length (replicate {A = ℕ} 102 0) = h in
+    put-next b (replicate 102 0) at i below ∙ rw (getD-replicate {A = ℕ} 102 i 0 0 h) refl
+
+-- what is set below a run of stores may be set before it
+set-below : (ys l : List ℕ) (i j v : ℕ) → i < j → set (sets l j ys) i v ≡ sets (set l i v) j ys
+set-below [] l i j v h = refl
+set-below (y ∷ ys) l i j v h =
+    set-below ys (set l j y) i (suc j) v (omega arith) ∙ ap (λ (x : List ℕ). sets x (suc j) ys) (set-comm l j i y v (λ e. absurd (omega (arith, e, h))))
+
+-- a run of stores over the front of another
+stores-over : (ys xs l : List ℕ) (at : ℕ) → length ys ≤ length xs → sets (sets l at xs) at ys ≡ sets l at (ys ++ drop (length ys) xs)
+stores-over [] xs l at h = refl
+stores-over (y ∷ ys) [] l at h = absurd (omega (arith, h))
+stores-over (y ∷ ys) (x ∷ xs) l at h =
+    ap (λ (z : List ℕ). sets z (suc at) ys) (set-below xs (set l at x) at (suc at) y (omega arith) ∙ ap (λ (z : List ℕ). sets z (suc at) xs) (set-set l at x y))
+    ∙ stores-over ys xs (set l at y) (suc at) (le-of-suc-le-suc h)
+
+placed-bytes : (u : ℕ) → callBytes (quiet Requesting Waiting u) ≡ 1 ∷ 2 ∷ u / 256 % 256 ∷ u % 256 ∷ replicate 98 0
+unfolding callBytes high slotsBytes
+placed-bytes u = refl
+
+-- 102 bytes set to 0, and the first four of them written
+pub placed-stored : (b : List ℕ) (at u : ℕ)
+    → set (set (set (set (sets b at (replicate 102 0)) at 1) (at + 1) 2) (at + 2) (u / 256 % 256)) (at + 3) (u % 256) ≡ sets b at (callBytes (quiet Requesting Waiting u))
+placed-stored b at u =
+    let one : at + 1 ≡ suc at = omega arith in
+    let two : at + 2 ≡ suc (suc at) = omega arith in
+    let three : at + 3 ≡ suc (suc (suc at)) = omega arith in
+    rw (one, two, three, placed-bytes u) (stores-over (1 ∷ 2 ∷ u / 256 % 256 ∷ u % 256 ∷ []) (replicate 102 0) b at (lit≤ tt))
+
+pub placed-in : (b : List ℕ) (r u : ℕ) → r < recordsIn b → sets b (102 * r) (callBytes (quiet Requesting Waiting u)) ≡ putIn b r (quiet Requesting Waiting u)
+unfolding putIn
+placed-in b r u h = rw (lt-ltb r (recordsIn b) h) refl
 
 -- ---- all cleared
 

@@ -12,21 +12,22 @@ use Rattle.refusal.specs.declared.Refusal.{Refusal}
 use Rattle.refusal.specs.declared.Refusal.the-variants.{NoSuchCall, RowTooLong}
 use Rattle.plan.specs.declared.Plan.{Plan}
 use Rattle.setup.specs.declared.Setup.{Setup}
+use Rattle.routing.specs.declared.Callee.{Callee}
 use Rattle.routing.specs.declared.Outcome.{Outcome}
+use Rattle.routing.specs.declared.Outcome.the-variants as outcome
 use Rattle.routing.specs.declared.Later.{Later}
 use Rattle.routing.specs.declared.Answer.{Answer}
 use Rattle.routing.specs.Routing.{outcomeBy, answerBy}
 use Rattle.routing.proofs.Zoned.{answer-outcome}
+use Rattle.ends.specs.declared.State.the-variants.{Requesting, Waiting}
 use Rattle.call.specs.declared.Call.{Call}
 use Rattle.call.specs.declared.Command.{Command}
 use Rattle.call.specs.declared.Step.{Step}
 use Rattle.call.specs.declared.Answer.the-variants.{Refused}
-use Rattle.call.specs.Protocol.{step, cleared, isFree, placed}
+use Rattle.call.specs.Protocol.{step, cleared, isFree, placed, quiet, nextUse}
 use Rattle.call.specs.History.{accepted}
 use Rattle.call.specs.Row.{Turn, says, command, recordAt, lowestFree, refuses, put, turn}
 use Rattle.teardown.proofs.Theorem.{refusedSame}
-use Rattle.exchange.specs.declared.Taken.{Taken}
-use Rattle.exchange.specs.Lent.{takenAt}
 use Rattle.placing.specs.declared.Placed.{Placed}
 use Rattle.placing.specs.Rows.{laterBy, laterFor, outcomeInBy, answerInBy, turned, placedInBy, rowAfterBy}
 use Rattle.placing.specs.Parts.{answerFor}
@@ -151,15 +152,25 @@ module _ (kept : Bool) (b : List ℕ) (p : Plan) (x : Setup) (n m : ℕ) {r : �
   said-is : a .outcome ≡ outcomeInBy kept (rowIn b) p x n m
   said-is = ap (λ (y : Answer). y .outcome) answer-is ∙ answer-outcome kept p x (laterFor (rowIn b)) n m
 
-  pub place-is : {t : Taken} {z : List ℕ} {w : Placed} → t ≡ takenAt (rowIn b) r → z ≡ keptBy (a .outcome) b r (t .call) → w ≡ answerFor a r (t .call)
+  place-is : {z : List ℕ} {w : Placed} → z ≡ keptBy (a .outcome) b r (recordAt (rowIn b) r) → w ≡ answerFor a r (recordAt (rowIn b) r)
       → (w ≡ placedInBy kept (rowIn b) p x n m) × (z ≡ after b (lowestFree (rowIn b)) (turned (rowIn b) (outcomeInBy kept (rowIn b) p x n m))) × (rowIn z ≡ rowAfterBy kept (rowIn b) p x n m)
-  place-is {t} {z} {w} et ez ew =
-      let held : t ≡ takenAt (rowIn b) (lowestFree (rowIn b)) = et ∙ ap (takenAt (rowIn b)) er in
-      let held-as : z ≡ keptBy (outcomeInBy kept (rowIn b) p x n m) b (lowestFree (rowIn b)) (recordAt (rowIn b) (lowestFree (rowIn b))) = ez ∙ rw (said-is, er, held) refl in (
-        ew ∙ rw (answer-is, er, held) (answers-placed-by (rowIn b) p x n m kept),
+  place-is {z} {w} ez ew =
+      let held-as : z ≡ keptBy (outcomeInBy kept (rowIn b) p x n m) b (lowestFree (rowIn b)) (recordAt (rowIn b) (lowestFree (rowIn b))) = ez ∙ rw (said-is, er) refl in (
+        ew ∙ rw (answer-is, er) (answers-placed-by (rowIn b) p x n m kept),
         held-as ∙ bytes-placed kept b p x n m,
         ap rowIn held-as ∙ row-placed kept b p x n m,
       )
+
+  -- routed: a call is stored under the next use number of the record, and the record is named
+  pub routed-is : {y : Callee} {u : ℕ} {z : List ℕ} {w : Placed} → a .outcome ≡ outcome.Routed y → u ≡ nextUse (recordAt (rowIn b) r .«use_number») → z ≡ putIn b r (quiet Requesting Waiting u)
+      → w ≡ record { «record_number» = r; «use_number» = u; routed = a }
+      → (w ≡ placedInBy kept (rowIn b) p x n m) × (z ≡ after b (lowestFree (rowIn b)) (turned (rowIn b) (outcomeInBy kept (rowIn b) p x n m))) × (rowIn z ≡ rowAfterBy kept (rowIn b) p x n m)
+  routed-is eo eu ez ew = place-is (ez ∙ rw (eo, eu) refl) (ew ∙ rw (eo, eu) refl)
+
+  -- refused: nothing is stored
+  pub refused-is : {y : Refusal} {w : Placed} → a .outcome ≡ outcome.Refused y → w ≡ record { «record_number» = 0; «use_number» = 0; routed = a }
+      → (w ≡ placedInBy kept (rowIn b) p x n m) × (b ≡ after b (lowestFree (rowIn b)) (turned (rowIn b) (outcomeInBy kept (rowIn b) p x n m))) × (rowIn b ≡ rowAfterBy kept (rowIn b) p x n m)
+  refused-is eo ew = place-is (rw eo refl) (ew ∙ rw eo refl)
 
 -- ---- a port
 

@@ -1,4 +1,4 @@
--- What the code makes of the bytes once a command is answered or a call routed. Only contracts of private functions go by this. Assumes nothing.
+-- What the code makes of the bytes once a command is answered or a call routed. Only contracts of private functions and the laws of placing go by this. Assumes nothing.
 use Prim.Native.Nat.{ℕ}
 use mathlib.Core.Bool.{cond}
 use mathlib.Core.List.{List}

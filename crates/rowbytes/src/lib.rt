@@ -1,10 +1,9 @@
 // A row of calls, or a port's one, in lent bytes: 102 to a record, for programs in other languages (01 'Calls'). What a record does is the call's own step, and placing decides by its functions of values; here a
-// record is found, read, and stored again where something is accepted. Nothing else is touched, and no refusal changes a byte.
+// record is found, read as far as is needed, and stored where something is accepted. Nothing else is touched, and no refusal changes a byte.
 use call::Answer;
 use call::Call;
 use call::Command;
 use call::Step;
-use exchange::Taken;
 use placing::Placed;
 use plan::Seen;
 use refusal::Refusal;
@@ -15,37 +14,21 @@ ghost use mathlib.Core.Bool.{cond};
 ghost use mathlib.Core.List.{[], _∷_};
 ghost use Prim.Native.Nat.{_+_, _*_, _/_, _<_, _≤_};
 ghost use lib.ListN.{length, replicate};
+ghost use lib.Seq.{sets};
 ghost use Rattle.plan.specs.declared.Plan.{Plan};
 ghost use Rattle.plan.specs.Find.{seen};
 ghost use Rattle.routing.specs.Steps.{target1};
 ghost use Rattle.routing.specs.Routing.{sourceList, targetList};
-ghost use Rattle.call.specs.Protocol.{isFree, step, cleared};
+ghost use Rattle.ends.specs.declared.State.the-variants.{Requesting, Waiting};
+ghost use Rattle.call.specs.Protocol.{isFree, step, cleared, quiet};
 ghost use Rattle.call.specs.History.{accepted};
 ghost use Rattle.call.specs.Row.{lowestFree, recordAt, says, command as by-command, turn};
-ghost use Rattle.exchange.specs.Lent.{takenAt};
 ghost use Rattle.placing.specs.Rows.{outcomeInBy, placedInBy, rowAfterBy, turned};
 ghost use Rattle.callbytes.specs.Codec.{callIn, callAt};
 ghost use Rattle.rowbytes.specs.Rows.{recordsIn, rowIn, clearedIn, putIn, after, portCommanded, portAfter};
-ghost use Rattle.rowbytes.specs.Parts.{settledBy, keptBy, portKeptBy};
+ghost use Rattle.rowbytes.specs.Parts.{settledBy, portKeptBy};
 
 // ---- a record of the row
-
-// A record copied out, and whether the row has it.
-fn taken_at(row: &[u8], r: usize) -> Taken
-    ensures { λ z. ⌜ z ≡ takenAt (rowIn (now (row .entry))) r ⌝ }
-{
-    if r < row.len() / 102 {
-        Taken {
-            inside: true,
-            call: callbytes::call_at(row, 102 * r),
-        }
-    } else {
-        Taken {
-            inside: false,
-            call: Call::cleared(),
-        }
-    }
-}
 
 // A record stored, where the row has it.
 fn put(row: &mut [u8], r: usize, c: Call)
@@ -142,14 +125,46 @@ pub fn command(row: &mut [u8], r: usize, use_number: u16, k: Command) -> Answer
 
 // ---- placing
 
-// The call is placed in the record r, which holds c, where it was routed.
-fn keep(row: &mut [u8], r: usize, a: routing::Answer, c: Call)
-    ensures { λ _. ⌜ now (row .exit) ≡ keptBy (a .outcome) (now (row .entry)) r c ⌝ }
+fn wide(b: u8) -> u16
+    ensures { λ r. ⌜ (r ≡ b) × (r < 256) ⌝ }
 {
-    let o = a.outcome;
-    match o {
-        Outcome::Routed(_) => put(row, r, c.placed()),
-        Outcome::Refused(_) => {}
+    b as u16
+}
+
+// The use number of a record, by its two bytes; 0 where the row has no such record. Placing needs no more of a record, so that none is read whole.
+fn use_at(row: &[u8], r: usize) -> u16
+    ensures { λ u. ⌜ u ≡ recordAt (rowIn (now (row .entry))) r .«use_number» ⌝ }
+{
+    if r < row.len() / 102 {
+        let at = 102 * r;
+        wide(row[at + 2]) * 256 + wide(row[at + 3])
+    } else {
+        0
+    }
+}
+
+fn blank(row: &mut [u8], at: usize)
+    requires { ⌜ at + 102 ≤ length (now row) ⌝ }
+    ensures { λ _. ⌜ now (row .exit) ≡ sets (now (row .entry)) at (replicate 102 0) ⌝ }
+{
+    let mut i: usize = 0;
+    while i < 102 {
+        row[at + i] = 0;
+        i += 1;
+    }
+}
+
+// A call placed under this use number is stored, where the row has the record: the caller requests, the callee waits, and nothing waits for either, so that all past the first four bytes is 0.
+fn put_placed(row: &mut [u8], r: usize, use_number: u16)
+    ensures { λ _. ⌜ now (row .exit) ≡ putIn (now (row .entry)) r (quiet Requesting Waiting «use_number») ⌝ }
+{
+    if r < row.len() / 102 {
+        let at = 102 * r;
+        blank(row, at);
+        row[at] = 1;
+        row[at + 1] = 2;
+        row[at + 2] = (use_number / 256 % 256) as u8;
+        row[at + 3] = (use_number % 256) as u8;
     }
 }
 
@@ -173,10 +188,23 @@ pub fn place(
     let r = lowest_free(row);
     let later = placing::later_for(n, r);
     let a = routing::route_seen(kept, v, out, later, source_list, target_list);
-    let t = taken_at(row, r);
-    let c = t.call;
-    keep(row, r, a, c);
-    placing::answer_for(a, r, c)
+    let o = a.outcome;
+    match o {
+        Outcome::Routed(_) => {
+            let use_number = std::num::wrapping_add_u16(use_at(row, r), 1);
+            put_placed(row, r, use_number);
+            Placed {
+                record_number: r,
+                use_number,
+                routed: a,
+            }
+        }
+        Outcome::Refused(_) => Placed {
+            record_number: 0,
+            use_number: 0,
+            routed: a,
+        },
+    }
 }
 
 // ---- a port

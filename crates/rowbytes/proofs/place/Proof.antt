@@ -1,9 +1,9 @@
 -- `rowbytes::place` meets its contract. Assumes nothing.
-use mathlib.Core.Path.{ap, _∙_}
+use mathlib.Core.Path.{refl, ap, _∙_}
 use lib.ListN.{length}
 use Rattle.routing.specs.declared.Outcome.{Outcome}
 use Rattle.routing.specs.Routing.{sourceList, targetList}
-use Rattle.rowbytes.proofs.Turns.{outcome-is, place-is}
+use Rattle.rowbytes.proofs.Turns.{outcome-is, routed-is, refused-is}
 use borrow.Author.Needs.{needs}
 use Rattle.rowbytes.proofs.place.Statement.{statement}
 use Rattle.rowbytes.proofs.place.Tie as tie
@@ -17,14 +17,20 @@ later-for-requires c κs = search needs
 route-seen-requires : tie.Need-route-seen-requires
 route-seen-requires c κs = search needs
 
-taken-at-requires : tie.Need-taken-at-requires
-taken-at-requires c κs = search needs
+enum-told : tie.Need-enum-told
+enum-told c = search needs
 
-keep-requires : tie.Need-keep-requires
-keep-requires c κs = search needs
+use-at-requires : tie.Need-use-at-requires
+use-at-requires c κs = search needs
 
-answer-for-requires : tie.Need-answer-for-requires
-answer-for-requires c κs = search needs
+wrapping-add-u16-requires : tie.Need-wrapping-add-u16-requires
+wrapping-add-u16-requires c κs = search needs
+
+put-placed-requires : tie.Need-put-placed-requires
+put-placed-requires c κs = search needs
+
+enum-told-2 : tie.Need-enum-told-2
+enum-told-2 c = search needs
 
 same-length : tie.Need-same-length
 same-length c = search needs
@@ -37,10 +43,41 @@ same-length-3 c = search needs
 
 returns : tie.Need-returns
 returns c p shows =
-    let a = c .before .before .before .before .before .before .before .before .before .before .before .before .before .before .before .before .before .before .before .before .before .args in
-    let routed = c .before .before .before .before .before .before .before .before .before .before .before .before .route-seen .ensures p shows in
-    let o = outcome-is (a .kept) (a .row .now) p (a .out) (length (a .source-list .now)) (length (a .target-list .now)) (c .before .before .before .before .before .before .before .before .before .before .before .before .before .before .before .before .lowest-free .ensures) (c .before .before .before .before .before .before .before .before .before .before .before .before .before .before .before .later-for .ensures) (routed .0) in
-    let placed = place-is (a .kept) (a .row .now) p (a .out) (length (a .source-list .now)) (length (a .target-list .now)) (c .before .before .before .before .before .before .before .before .before .before .before .before .before .before .before .before .lowest-free .ensures) (c .before .before .before .before .before .before .before .before .before .before .before .before .before .before .before .later-for .ensures) (routed .0) (c .before .before .before .before .before .before .taken-at .ensures) (c .before .before .before .keep .ensures) (c .answer-for .ensures) in (
+    let next = rw (c .before .before .before .before .before .use-at .ensures) at (c .before .before .before .before .wrapping-add-u16 .ensures) in
+    let a = c .before .before .before .before .before .before .before .before .before .before .before .before .before .before .before .before .before .before .before .before .before .before .args in
+    let free = c .before .before .before .before .before .before .before .before .before .before .before .before .before .before .before .before .before .lowest-free .ensures in
+    let later = c .before .before .before .before .before .before .before .before .before .before .before .before .before .before .before .before .later-for .ensures in
+    let routed = c .before .before .before .before .before .before .before .before .before .before .before .before .before .route-seen .ensures p shows in
+    let n = length (a .source-list .now) in
+    let m = length (a .target-list .now) in
+    let o = outcome-is (a .kept) (a .row .now) p (a .out) n m free later (routed .0) in
+    let placed = routed-is (a .kept) (a .row .now) p (a .out) n m free later (routed .0) (c .before .before .before .before .before .before .before .enum-told .given .1) next (c .before .before .put-placed .ensures) refl in (
+      placed .0,
+      placed .1,
+      placed .2,
+      routed .1 ∙ ap (λ (y : Outcome). sourceList p (a .out) y (a .source-list .now)) o,
+      routed .2 ∙ ap (λ (y : Outcome). targetList p (a .out) y (a .target-list .now)) o,
+    )
+
+same-length-4 : tie.Need-same-length-4
+same-length-4 c = search needs
+
+same-length-5 : tie.Need-same-length-5
+same-length-5 c = search needs
+
+same-length-6 : tie.Need-same-length-6
+same-length-6 c = search needs
+
+returns-2 : tie.Need-returns-2
+returns-2 c p shows =
+    let a = c .before .before .before .before .before .before .before .before .before .before .before .before .before .before .before .args in
+    let free = c .before .before .before .before .before .before .before .before .before .before .lowest-free .ensures in
+    let later = c .before .before .before .before .before .before .before .before .before .later-for .ensures in
+    let routed = c .before .before .before .before .before .before .route-seen .ensures p shows in
+    let n = length (a .source-list .now) in
+    let m = length (a .target-list .now) in
+    let o = outcome-is (a .kept) (a .row .now) p (a .out) n m free later (routed .0) in
+    let placed = refused-is (a .kept) (a .row .now) p (a .out) n m free later (routed .0) (c .enum-told2 .given .1) refl in (
       placed .0,
       placed .1,
       placed .2,
@@ -55,10 +92,16 @@ place-spec =
     lowest-free-requires
     later-for-requires
     route-seen-requires
-    taken-at-requires
-    keep-requires
-    answer-for-requires
+    enum-told
+    use-at-requires
+    wrapping-add-u16-requires
+    put-placed-requires
+    enum-told-2
     same-length
     same-length-2
     same-length-3
-    returns)
+    returns
+    same-length-4
+    same-length-5
+    same-length-6
+    returns-2)
