@@ -40,18 +40,28 @@ rest-next taken s x long h l =
     let inside : x < length (take (s .count) (s .boxes)) = simp (length-take, long) (omega arith) in
     rw (drop-cons (take (s .count) (s .boxes)) x 0 inside, getD-take (s .count) (s .boxes) x 0 l, add-one x)
 
-pub rest-skip : (taken : List ℕ) (s : Subscriber) (x : ℕ) → s .count ≤ x → rest taken s x ≡ rest taken s (x + 1)
-unfolding rest
-rest-skip taken s x h =
+pub rest-past : (taken : List ℕ) (s : Subscriber) (x : ℕ) → s .count ≤ x → rest taken s x ≡ taken
+unfolding rest takes
+rest-past taken s x h =
     let short : length (take (s .count) (s .boxes)) ≤ x = simp length-take (omega arith) in
-    let shorter : length (take (s .count) (s .boxes)) ≤ x + 1 = omega arith in
-    rw (drop-of-length-le (take (s .count) (s .boxes)) short, drop-of-length-le (take (s .count) (s .boxes)) shorter)
+    rw (drop-of-length-le (take (s .count) (s .boxes)) short)
+
+pub rest-skip : (taken : List ℕ) (s : Subscriber) (x : ℕ) → s .count ≤ x → rest taken s x ≡ rest taken s (x + 1)
+rest-skip taken s x h = rest-past taken s x h ∙ sym (rest-past taken s (x + 1) (omega arith))
 
 pub rest-done : (taken : List ℕ) (s : Subscriber) → length (s .boxes) ≡ 4 → rest taken s 4 ≡ taken
 unfolding rest takes
 rest-done taken s long =
     let short : length (take (s .count) (s .boxes)) ≤ 4 = simp (length-take, long) (omega arith) in
     rw (drop-of-length-le (take (s .count) (s .boxes)) short)
+
+-- a subscriber that has no number, and one that has one
+pub claimed-none : (taken : List ℕ) (s : Subscriber) → s .count ≡ 0 → claimed taken s ≡ taken
+claimed-none taken s e = sym (rest-all taken s) ∙ rest-past taken s 0 (omega arith)
+
+pub claimed-one : (taken : List ℕ) (s : Subscriber) → length (s .boxes) ≡ 4 → s .count ≡ 1 → claimed taken s ≡ entered taken (box s 0) (s .kind)
+claimed-one taken s long e =
+    sym (rest-all taken s) ∙ rest-next taken s 0 long (omega arith) (omega arith) ∙ rest-past (entered taken (box s 0) (s .kind)) s 1 (omega arith)
 
 -- ---- what the table holds
 

@@ -1,6 +1,6 @@
 -- The rules of the subscribers one after the other, as the loop of `soundness::all_sound` goes through them. Assumes nothing.
 use mathlib.Core.Path.{_≡_, sym, ap, _∙_}
-use mathlib.Core.Bool.{Bool, true, false, _&&_}
+use mathlib.Core.Bool.{Bool, true, false, _&&_, and-true}
 use mathlib.Core.Logic.{_⊎_, inl, inr, ⊎-elim}
 use mathlib.Core.List.{List}
 use Prim.Native.Nat.{ℕ, zero, suc, _+_, _-_, _≤_, _<_}
@@ -17,7 +17,7 @@ use Rattle.plan.specs.declared.Types.{Types}
 use Rattle.plan.specs.declared.Subscriber.{Subscriber}
 use Rattle.plan.specs.Parts.{boxNumber, at, box}
 use Rattle.plan.specs.Rules.{kindKnown, addressGiven, countFits, numbersGiven, numbersDiffer, boxesBlank, setsInChoices, reversibleTwice, linesApart, oneKind, ascends}
-use Rattle.plan.specs.Sound.{boxesSound, ownSound, numbersApart, subscriberSound}
+use Rattle.plan.specs.Sound.{boxesSound, ownSound, listedSound, numbersApart, subscriberSound}
 use Rattle.plan.specs.Table.{fits, claimed}
 use Rattle.plan.specs.Steps.{above}
 use Rattle.plan.proofs.Numbers.{Among, Numbered, Taken, taken-next, fits-is}
@@ -111,6 +111,11 @@ module _ (t : Types) (s : Subscriber) (e : ownSound t s ≡ true) where
 
   pub numbered : length (s .boxes) ≡ 4 → Numbered s
   numbered long = record { four = long; small = numbers-small; low = low-kind }
+
+-- where the places past its count are 0, its own rules are L10 to L16
+pub own-listed : (t : Types) (s : Subscriber) → boxesBlank s ≡ true → ownSound t s ≡ listedSound t s
+unfolding ownSound listedSound boxesSound
+own-listed t s blank = rw (blank, and-true (numbersGiven s && numbersDiffer s))
 
 -- ---- those before place i, for the table of numbers
 module _ (t : Types) (subs : List Subscriber) (i : ℕ) (e : every i (subscriberSound t subs) ≡ true) where

@@ -38,6 +38,10 @@ boxesSound s = numbersGiven s && numbersDiffer s && boxesBlank s
 unfoldable pub ownSound : Types → Subscriber → Bool
 ownSound t s = kindKnown s && addressGiven s && countFits s && setsInChoices t s && reversibleTwice t s && boxesSound s
 
+-- the same for a reader that has put the zeros past its count there itself: L10 to L16
+unfoldable pub listedSound : Types → Subscriber → Bool
+listedSound t s = kindKnown s && addressGiven s && countFits s && setsInChoices t s && reversibleTwice t s && (numbersGiven s && numbersDiffer s)
+
 -- tag 5, the subscriber at place i beside each one before it: L17, L18
 unfoldable pub numbersApart : List Subscriber → ℕ → Bool
 numbersApart subs i = every i (λ j. linesApart (at subs j) (at subs i) && oneKind (at subs j) (at subs i))

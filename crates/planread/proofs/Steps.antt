@@ -13,9 +13,11 @@ use borrow.Author.Tests.{ltb-false, leb-true, leb-false, eqb-true, le-ltb, eq-eq
 use Rattle.typeset.proofs.Bools.{and-left, and-right, or-cases}
 use Rattle.refusal.specs.declared.Refusal.{Refusal}
 use Rattle.refusal.specs.declared.Refusal.the-variants.{WrongEnd, WrongTag, WrongLength, RuleBroken, TooManySubscribers}
+use Rattle.typeset.specs.Sets.{every}
 use Rattle.plan.specs.declared.Plan.{Plan}
 use Rattle.plan.specs.declared.Verdict.{Verdict}
 use Rattle.plan.specs.declared.Verdict.the-variants.{Sound, Refused}
+use Rattle.plan.specs.Rules.{boxesBlank}
 use Rattle.planbytes.specs.Numbers.{number, numbers}
 use Rattle.planread.specs.Reading.{tagOf, lengthOf, bodyOf, after, typesIn, orderIn, subscriberWith, allowed, everLong, entered, kept, header, verdictAt, refused, ended, readFrom}
 use Rattle.planbytes.proofs.Numbers.{numbers-length}
@@ -133,6 +135,16 @@ subscriber-part k n l h =
 pub boxes-length : (k : ℕ) (l : List ℕ) → k ≤ 4 → length (subscriberWith k l .boxes) ≡ 4
 unfolding subscriberWith
 boxes-length k l h = simp (length-append, numbers-length, length-replicate) (omega arith)
+
+-- L20 of its own places, which the reader fills itself
+pub boxes-blank : (k : ℕ) (l : List ℕ) → k ≤ 4 → boxesBlank (subscriberWith k l) ≡ true
+unfolding subscriberWith boxesBlank numbers every
+boxes-blank zero l h = refl
+boxes-blank (suc zero) l h = refl
+boxes-blank (suc (suc zero)) l h = refl
+boxes-blank (suc (suc (suc zero))) l h = refl
+boxes-blank (suc (suc (suc (suc zero)))) l h = refl
+boxes-blank (suc (suc (suc (suc (suc k))))) l h = absurd (omega (arith, h))
 
 -- ---- the tags and lengths by stage
 

@@ -13,13 +13,14 @@ use Rattle.plan.specs.declared.Types.{Types}
 use Rattle.plan.specs.declared.Subscriber.{Subscriber}
 use Rattle.plan.specs.declared.Plan.{Plan}
 use Rattle.plan.specs.declared.Verdict.the-variants.{Sound, Refused}
+use Rattle.plan.specs.Rules.{boxesBlank}
 use Rattle.plan.specs.Sound.{typesSound, sourceSound, targetSound, subscriberSound}
 use Rattle.planbytes.specs.Numbers.{number}
 use Rattle.planread.specs.Reading.{noTypes, planOf, blankPlan, tagOf, lengthOf, typesIn, orderIn, boxesIn, subscriberWith, subscriberIn, entered, kept, header, refused, ended, readFrom, readOf}
 use Rattle.plan.specs.Parts.{noSubscriber}
 use Rattle.planbytes.proofs.Numbers.{one-at}
 use Rattle.planread.proofs.Fields.{tag-at, length-at}
-use Rattle.planread.proofs.Steps.{Passed, Next, header-passed, read-refused, types-part, order-part, subscriber-part, version-next, types-next, source-next, target-next, end-next, subscriber-next, at-room, at-broken, at-end, at-on}
+use Rattle.planread.proofs.Steps.{Passed, Next, header-passed, read-refused, types-part, order-part, subscriber-part, boxes-blank, version-next, types-next, source-next, target-next, end-next, subscriber-next, at-room, at-broken, at-end, at-on}
 
 -- ---- tag 1
 module _ (bs : List ℕ) (e : header 0 0 0 bs ≡ Sound) where
@@ -163,6 +164,9 @@ module _ (t : Types) (source target : List ℕ) (subs : List Subscriber) (count 
       turn-room = at-room (256 - count) 4 (planOf t source target subs count) at bs e (next .tag) long
 
       module _ {s : Subscriber} (q : s ≡ subscriberWith ((n - 13) / 2) (drop (at + 3) bs)) where
+        pub turn-blank : boxesBlank s ≡ true
+        turn-blank = ap boxesBlank q ∙ boxes-blank ((n - 13) / 2) (drop (at + 3) bs) (omega (arith, turn-high))
+
         subscriber-is : subscriberIn (take n (drop (at + 3) bs)) ≡ s
         unfolding subscriberIn boxesIn
         subscriber-is =

@@ -1,10 +1,11 @@
 // Any bytes read as a plan file: the plan, or the refusal of the first field at which they stop being one.
 ghost use mathlib.Core.Path.{_≡_};
-ghost use mathlib.Core.Bool.{_&&_, cond};
+ghost use mathlib.Core.Bool.{true, _&&_, cond};
 ghost use mathlib.Core.List.{_++_};
 ghost use Prim.Native.Nat.{_+_, _*_, _-_, _%_, _≤_, _<_};
 ghost use lib.Dec.{leb, ltb, eqb};
 ghost use lib.ListN.{length, take, drop, replicate};
+ghost use Rattle.plan.specs.Rules.{boxesBlank};
 ghost use Rattle.plan.specs.Sound.{typesSound, sourceSound, targetSound, ownSound, numberSaid, placeSaid};
 ghost use Rattle.plan.specs.Table.{fits};
 ghost use Rattle.planbytes.specs.Numbers.{number, numbers};
@@ -283,11 +284,13 @@ fn beside(s: Subscriber, last: u32, taken: &[u32; 4096]) -> bool
     soundness::fits(taken, s)
 }
 
-// Whether a subscriber keeps its own rules, its number of boxes among them, and those beside the ones before it.
+// Whether a subscriber keeps its own rules, its number of boxes among them, and those beside the ones before it. The zeros past its numbers are the reader's own, and are not
+// tested again.
 fn keeps(types: Types, s: Subscriber, last: u32, taken: &[u32; 4096]) -> bool
+    requires { ⌜ boxesBlank s ≡ true ⌝ }
     ensures { λ r. ⌜ r ≡ (ownSound types s && ltb last (s .address) && fits (now (taken .entry)) s) ⌝ }
 {
-    if rules::own_sound(types, s) {
+    if rules::listed_sound(types, s) {
         beside(s, last, taken)
     } else {
         false

@@ -10,6 +10,7 @@ use Rattle.rules.proofs.types_sound.Reads as types-sound
 use Rattle.rules.proofs.source_sound.Reads as source-sound
 use Rattle.rules.proofs.target_sound.Reads as target-sound
 use Rattle.rules.proofs.own_sound.Reads as own-sound
+use Rattle.rules.proofs.listed_sound.Reads as listed-sound
 
 pub types-sound-exact : (t : Types) (r s : Bool)
     → types-sound.Post tt (t, tt) r (t, tt) → types-sound.Post tt (t, tt) s (t, tt) → r ≡ s
@@ -26,3 +27,7 @@ target-sound-exact t source target r s p q = p ∙ sym q
 pub own-sound-exact : (t : Types) (subscriber : Subscriber) (r s : Bool)
     → own-sound.Post tt (t, (subscriber, tt)) r (t, (subscriber, tt)) → own-sound.Post tt (t, (subscriber, tt)) s (t, (subscriber, tt)) → r ≡ s
 own-sound-exact t subscriber r s p q = p ∙ sym q
+
+pub listed-sound-exact : (t : Types) (subscriber : Subscriber) (r s : Bool)
+    → listed-sound.Post tt (t, (subscriber, tt)) r (t, (subscriber, tt)) → listed-sound.Post tt (t, (subscriber, tt)) s (t, (subscriber, tt)) → r ≡ s
+listed-sound-exact t subscriber r s p q = p ∙ sym q

@@ -4,9 +4,9 @@ ghost use mathlib.Core.Bool.{_&&_};
 ghost use Prim.Native.Nat.{_<_};
 ghost use lib.Dec.{leb};
 ghost use Rattle.plan.specs.Parts.{boxNumber};
-ghost use Rattle.plan.specs.Rules.{typesExist, reversibleInBoth, boundInBoth, kindKnown, addressGiven, countFits, setsInChoices, reversibleTwice};
-ghost use Rattle.plan.specs.Sound.{typesSound, sourceSound, targetSound, boxesSound, ownSound};
-ghost use Rattle.plan.specs.Steps.{differsFrom, differsAt, boxSound};
+ghost use Rattle.plan.specs.Rules.{typesExist, reversibleInBoth, boundInBoth, kindKnown, addressGiven, countFits, numbersGiven, setsInChoices, reversibleTwice, numbersDiffer};
+ghost use Rattle.plan.specs.Sound.{typesSound, sourceSound, targetSound, boxesSound, ownSound, listedSound};
+ghost use Rattle.plan.specs.Steps.{differsFrom, differsAt, boxSound, numberAt};
 use plan::Subscriber;
 use plan::Types;
 
@@ -229,4 +229,61 @@ pub fn own_sound(t: Types, s: Subscriber) -> bool
         return false;
     }
     boxes_sound(s)
+}
+
+// L13 and L16 at the place x, of the subscriber's numbers alone.
+fn number_at(s: Subscriber, x: usize) -> bool
+    requires { ⌜ x < 4 ⌝ }
+    ensures { λ r. ⌜ r ≡ numberAt s x ⌝ }
+{
+    let boxes = s.boxes;
+    if x < s.count as usize {
+        if !box_number(boxes[x]) {
+            return false;
+        }
+        differs_at(s, x)
+    } else {
+        true
+    }
+}
+
+// L13 and L16. A line has one number and a mobile none: where there is no second one, nothing is gone through.
+fn numbers_listed(s: Subscriber) -> bool
+    ensures { λ r. ⌜ r ≡ (numbersGiven s && numbersDiffer s) ⌝ }
+{
+    if s.count == 0 {
+        return true;
+    }
+    if s.count == 1 {
+        let boxes = s.boxes;
+        return box_number(boxes[0]);
+    }
+    for x in 0usize..4usize {
+        if !number_at(s, x) {
+            return false;
+        }
+    }
+    true
+}
+
+// As own_sound, for a reader that has put the zeros past the subscriber's count there itself: those places are not looked at.
+pub fn listed_sound(t: Types, s: Subscriber) -> bool
+    ensures { λ r. ⌜ r ≡ listedSound t s ⌝ }
+{
+    if !kind_known(s) {
+        return false;
+    }
+    if !address_given(s) {
+        return false;
+    }
+    if !count_fits(s) {
+        return false;
+    }
+    if !sets_in_choices(t, s) {
+        return false;
+    }
+    if !reversible_twice(t, s) {
+        return false;
+    }
+    numbers_listed(s)
 }

@@ -10,7 +10,7 @@ use Rattle.typeset.proofs.Bools.{passed, failed}
 use borrow.Author.Needs.{needs}
 use Prim.Native.Nat.{_-_}
 use Rattle.planread.proofs.Going.{Going, going-none, going-on}
-use Rattle.planread.proofs.Turns.{turn-refused, turn-inside, turn-end, turn-count, turn-low, turn-high, turn-room, turn-broken, turn-on}
+use Rattle.planread.proofs.Turns.{turn-refused, turn-inside, turn-end, turn-count, turn-low, turn-high, turn-room, turn-blank, turn-broken, turn-on}
 use Rattle.planread.proofs.read_subscribers.Statement.{statement}
 use Rattle.planread.proofs.read_subscribers.Tie as tie
 
@@ -76,7 +76,10 @@ subscriber-at-requires c κs =
     (omega arith, omega arith)
 
 keeps-requires : tie.Need-keeps-requires Inv-loop μ-loop
-keeps-requires c κs = search needs
+keeps-requires c κs =
+    let a = c .before .before .before .before .before .before .before .before .before .before .before .args in
+    let l = c .before .before .before .before .before .before .before .before .loop in
+    turn-blank (a .types) (a .source) (a .target) (l .subscribers) (l .count) (l .at) (a .bytes .now) (l .inv .few) (sym (c .before .before .before .before .before .before .before .header .ensures) ∙ c .before .before .before .before .before .enum-told .given .1) (c .before .before .before .if1 .left) (c .before .before .two .ensures) (c .before .subscriber-at .ensures)
 
 refused-requires-2 : tie.Need-refused-requires-2 Inv-loop μ-loop
 refused-requires-2 c κs = search needs

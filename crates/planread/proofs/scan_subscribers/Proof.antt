@@ -13,7 +13,7 @@ use Rattle.planread.proofs.Going.{Going, going-on}
 use Rattle.planread.proofs.Passing.{Passing, passing-none, shown-new, shown-kept, scanned-refused, scanned-end}
 use Rattle.planread.specs.Scanning.{scanned}
 use mathlib.Core.Logic.{⊎-elim}
-use Rattle.planread.proofs.Turns.{turn-refused, turn-inside, turn-end, turn-count, turn-low, turn-high, turn-room, turn-broken, turn-on}
+use Rattle.planread.proofs.Turns.{turn-refused, turn-inside, turn-end, turn-count, turn-low, turn-high, turn-room, turn-blank, turn-broken, turn-on}
 use Rattle.planread.proofs.scan_subscribers.Statement.{statement}
 use Rattle.planread.proofs.scan_subscribers.Tie as tie
 
@@ -81,7 +81,10 @@ subscriber-at-requires c κs = let low = turn-low (c .before .before .before .be
     (omega arith, omega arith)
 
 keeps-requires : tie.Need-keeps-requires Inv-loop μ-loop
-keeps-requires c κs = search needs
+keeps-requires c κs =
+    let a = c .before .before .before .before .before .before .before .before .before .before .before .before .args in
+    let l = c .before .before .before .before .before .before .before .before .loop in
+    turn-blank (a .types) (a .source) (a .target) (l .inv .subs) (l .count) (l .at) (a .bytes .now) (l .inv .going .few) (sym (c .before .before .before .before .before .before .before .header .ensures) ∙ c .before .before .before .before .before .enum-told .given .1) (c .before .before .before .if1 .left) (c .before .before .two .ensures) (c .before .subscriber-at .ensures)
 
 unseen-requires-2 : tie.Need-unseen-requires-2 Inv-loop μ-loop
 unseen-requires-2 c κs = search needs

@@ -5,7 +5,7 @@ use Prim.Native.Nat.{_≤_, _-_}
 use native.Mathlib.Omega.{arith}
 use borrow.Author.Needs.{needs}
 use lib.ListN.{length}
-use Rattle.plan.proofs.Numbers.{rest, rest-all, rest-next, rest-skip, rest-done}
+use Rattle.plan.proofs.Numbers.{rest, rest-all, rest-next, rest-skip, rest-done, claimed-none, claimed-one}
 use Rattle.plan.specs.Table.{claimed}
 use Rattle.soundness.proofs.claim.Statement.{statement}
 use Rattle.soundness.proofs.claim.Tie as tie
@@ -16,20 +16,34 @@ Inv-loop taken₀ s boxes x₀ taken x = (x ≤ 4) × (rest taken s x ≡ claime
 abbrev μ-loop : tie.MeasureT-loop
 μ-loop taken₀ s boxes x₀ taken x = 4 - x
 
-loop-holds : tie.Need-loop-holds Inv-loop μ-loop
-loop-holds c = (search needs, rest-all _ _)
-
-cast-if1 : tie.Need-cast-if1 Inv-loop μ-loop
-cast-if1 c = search needs
-
-mul-take-number : tie.Need-mul-take-number Inv-loop μ-loop
-mul-take-number c = search needs
+returns : tie.Need-returns Inv-loop μ-loop
+returns c = sym (claimed-none _ _ (c .if1 .taken))
 
 array-read-take-number : tie.Need-array-read-take-number Inv-loop μ-loop
 array-read-take-number c = search needs
 
 take-number-requires : tie.Need-take-number-requires Inv-loop μ-loop
 take-number-requires c κs = search needs
+
+returns-2 : tie.Need-returns-2 Inv-loop μ-loop
+returns-2 c =
+    let long : length (c .before .before .before .before .before .before .before .args .s .boxes) ≡ 4 = search needs in
+    c .take-number .ensures ∙ sym (claimed-one _ _ long (c .before .before .if2 .taken))
+
+loop-holds : tie.Need-loop-holds Inv-loop μ-loop
+loop-holds c = (search needs, rest-all _ _)
+
+cast-if3 : tie.Need-cast-if3 Inv-loop μ-loop
+cast-if3 c = search needs
+
+mul-take-number : tie.Need-mul-take-number Inv-loop μ-loop
+mul-take-number c = search needs
+
+array-read-take-number-2 : tie.Need-array-read-take-number-2 Inv-loop μ-loop
+array-read-take-number-2 c = search needs
+
+take-number-requires-2 : tie.Need-take-number-requires-2 Inv-loop μ-loop
+take-number-requires-2 c κs = search needs
 
 add-x : tie.Need-add-x Inv-loop μ-loop
 add-x c = search needs
@@ -40,15 +54,15 @@ loop-less c = search needs
 loop-again : tie.Need-loop-again Inv-loop μ-loop
 loop-again c =
     let i = c .before .before .before .loop .inv in
-    let long : length (c .before .before .before .before .before .args .s .boxes) ≡ 4 = search needs in
+    let long : length (c .before .before .before .before .before .before .before .before .before .args .s .boxes) ≡ 4 = search needs in
     ⊎-elim
     (λ w. (search needs, rw (w .3 ∙ w .2 .ensures) (sym (rest-next _ _ _ long (omega arith) (w .0 .taken)) ∙ i .1)))
     (λ w. (search needs, rw (w .1) (sym (rest-skip _ _ _ (w .0 .left)) ∙ i .1)))
-    (c .if1 .came)
+    (c .if3 .came)
 
-returns : tie.Need-returns Inv-loop μ-loop
-returns c =
-    let long : length (c .before .before .before .args .s .boxes) ≡ 4 = search needs in
+returns-3 : tie.Need-returns-3 Inv-loop μ-loop
+returns-3 c =
+    let long : length (c .before .before .before .before .before .before .before .args .s .boxes) ≡ 4 = search needs in
     let end : c .before .loop .x ≡ 4 = omega arith in
     sym (rest-done _ _ long) ∙ rw end at (c .before .loop .inv .1)
 
@@ -58,12 +72,16 @@ claim-spec =
     (tie.spec
     Inv-loop
     μ-loop
-    loop-holds
-    cast-if1
-    mul-take-number
+    returns
     array-read-take-number
     take-number-requires
+    returns-2
+    loop-holds
+    cast-if3
+    mul-take-number
+    array-read-take-number-2
+    take-number-requires-2
     add-x
     loop-less
     loop-again
-    returns)
+    returns-3)
