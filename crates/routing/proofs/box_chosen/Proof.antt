@@ -1,5 +1,5 @@
 -- `routing::box_chosen` meets its contract. Assumes nothing.
-use mathlib.Core.Path.{_≡_, refl, sym, ap, _∙_}
+use mathlib.Core.Path.{sym, _∙_}
 use Rattle.setup.specs.Setups.{routing}
 use Rattle.routing.specs.Interface.{interfaceAt}
 use Rattle.routing.specs.Steps.{callee4}

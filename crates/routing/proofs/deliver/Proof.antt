@@ -1,6 +1,4 @@
 -- `routing::deliver` meets its contract. Assumes nothing.
-use mathlib.Core.Path.{_≡_, refl, sym, ap, _∙_}
-use Rattle.routing.specs.Steps.{tail}
 use Rattle.routing.specs.Routing.{answered}
 use Rattle.routing.specs.Places.{delivered}
 use Rattle.routing.proofs.Parts.{tail-length}

@@ -1,5 +1,5 @@
 -- `routing::route_tested` meets its contract: the plan shows what it hands on. Assumes nothing.
-use mathlib.Core.Path.{_≡_, sym}
+use mathlib.Core.Path.{sym}
 use borrow.Author.Needs.{needs}
 use Rattle.routing.proofs.route_tested.Statement.{statement}
 use Rattle.routing.proofs.route_tested.Tie as tie
