@@ -1,7 +1,11 @@
 // The core for programs in other languages: functions on numbers and lent bytes, over a plan file. The header is include/dfc.h.
 ghost use mathlib.Core.Path.{_≡_};
-ghost use Prim.Native.Nat.{_≤_, _<_};
+ghost use Prim.Native.Nat.{ℕ, _≤_, _<_};
 ghost use lib.ListN.{length};
+ghost use Rattle.plan.specs.declared.Plan.{Plan};
+ghost use Rattle.plan.specs.Find.{seen};
+ghost use Rattle.zone.specs.Order.{held};
+ghost use Rattle.zone.specs.Answer.{zoneAt};
 ghost use Rattle.setupbytes.specs.Codec.{setupBytes};
 ghost use Rattle.dfc.specs.Said.{placeNumber, accepted, refusal, regionOf, makerOf};
 ghost use Rattle.dfc.specs.Files.{checked, writtenSaid, rewritten, roomRewritten, zoned, typesZoned, madeSaid, madeRoom, making, roomMaking, newOver, continuedOver, reversedOver};
@@ -9,6 +13,7 @@ ghost use Rattle.dfc.specs.Routes.{boxKind, boxNumber, boxAddress, route
 use making::Maker;
 use making::Outcome;
 use plan::Region;
+use plan::Seen;
 use plan::Verdict;
 use planwrite::Written;
 use refusal::Place;
@@ -83,8 +88,8 @@ fn maker_of(kind: u8, of_type: u8, address: u32) -> Maker
 pub extern "C" fn dfc_check(file: &[u8]) -> Answer
     ensures { λ r. ⌜ r ≡ checked (now (file .entry)) ⌝ }
 {
-    let reading = planback::read(file);
-    let verdict = reading.answer;
+    let sight = planback::scan(file, 0, 0);
+    let verdict = sight.answer;
     match verdict {
         Verdict::Sound => accepted(0),
         Verdict::Refused(r) => refused(r),
@@ -105,13 +110,7 @@ fn written_said(w: Written) -> Answer
 pub extern "C" fn dfc_write(file: &[u8], room: &mut [u8]) -> Answer
     ensures { λ r. ⌜ (r ≡ rewritten (now (file .entry)) (now (room .entry))) × (now (room .exit) ≡ roomRewritten (now (file .entry)) (now (room .entry))) ⌝ }
 {
-    let reading = planback::read(file);
-    let verdict = reading.answer;
-    let plan = reading.plan;
-    match verdict {
-        Verdict::Sound => written_said(planwrite::write_tested(true, plan, room)),
-        Verdict::Refused(r) => refused(r),
-    }
+    written_said(planback::rewrite(file, room))
 }
 
 // ---- zones
@@ -122,16 +121,30 @@ fn types_of(zone: Zone) -> [u8; 32]
     zone.types
 }
 
+// The zone of the first address of which a plan shows something.
+fn zone_shown(region: Region, v: Seen) -> Zone
+    ensures { λ r. ⌜ ((p : Plan) (first second : ℕ) → seen p first second ≡ v → r ≡ held (zoneAt p region first)) ⌝ }
+{
+    let source_order = v.source_order;
+    let target_order = v.target_order;
+    let holder = v.first;
+    match region {
+        Region::Source => zone::zone_of(source_order, holder.source),
+        Region::Target => zone::zone_of(target_order, holder.target),
+    }
+}
+
 // The zone of an address in a region, into 32 places, and how many types it has.
 #[no_mangle]
 pub extern "C" fn dfc_zone(file: &[u8], region: u8, address: u32, types: &mut [u8; 32]) -> Answer
     ensures { λ r. ⌜ (r ≡ zoned (now (file .entry)) region address) × (now (types .exit) ≡ typesZoned (now (file .entry)) region address (now (types .entry))) ⌝ }
 {
-    let reading = planback::read(file);
-    let verdict = reading.answer;
+    let sight = planback::scan(file, address, 0);
+    let verdict = sight.answer;
+    let v = sight.seen;
     match verdict {
         Verdict::Sound => {
-            let zone = zone::zone_at(reading.plan, region_of(region), address);
+            let zone = zone_shown(region_of(region), v);
             *types = types_of(zone);
             accepted(zone.len as u64)
         }
@@ -170,18 +183,13 @@ pub extern "C" fn dfc_new(
     ensures { λ r. ⌜ (r ≡ making (now (file .entry)) (newOver (now (file .entry)) (makerOf kind «of_type» address) (now (string .entry)) target))
         × (now (room .exit) ≡ roomMaking (now (file .entry)) (newOver (now (file .entry)) (makerOf kind «of_type» address) (now (string .entry)) target) (now (room .entry))) ⌝ }
 {
-    let reading = planback::read(file);
-    let verdict = reading.answer;
-    let plan = reading.plan;
+    let maker = maker_of(kind, of_type, address);
+    let sight = planback::scan(file, making::box_address(maker), 0);
+    let verdict = sight.answer;
+    let v = sight.seen;
     match verdict {
         Verdict::Sound => {
-            let m = making::new_tested(
-                true,
-                plan,
-                maker_of(kind, of_type, address),
-                string,
-                target,
-            );
+            let m = making::new_seen(true, v, maker, string, target);
             handed(m, room)
         }
         Verdict::Refused(r) => refused(r),
@@ -204,14 +212,15 @@ pub extern "C" fn dfc_continued(
     ensures { λ r. ⌜ (r ≡ making (now (file .entry)) (continuedOver (now (file .entry)) (makerOf kind «of_type» address) (now (setup .entry)) source (now (string .entry)) target))
         × (now (room .exit) ≡ roomMaking (now (file .entry)) (continuedOver (now (file .entry)) (makerOf kind «of_type» address) (now (setup .entry)) source (now (string .entry)) target) (now (room .entry))) ⌝ }
 {
-    let reading = planback::read(file);
-    let verdict = reading.answer;
-    let plan = reading.plan;
+    let s = setupbytes::setup_in(setup);
+    let maker = maker_of(kind, of_type, address);
+    let at = making::box_address(maker);
+    let sight = planback::scan(file, at, setup::routing_address(s));
+    let verdict = sight.answer;
+    let v = sight.seen;
     match verdict {
         Verdict::Sound => {
-            let s = setupbytes::setup_in(setup);
-            let maker = maker_of(kind, of_type, address);
-            let m = making::continued_tested(true, plan, maker, s, source, string, target);
+            let m = making::continued_seen(true, v, maker, s, source, string, target);
             handed(m, room)
         }
         Verdict::Refused(r) => refused(r),
@@ -234,14 +243,15 @@ pub extern "C" fn dfc_reversed(
     ensures { λ r. ⌜ (r ≡ making (now (file .entry)) (reversedOver (now (file .entry)) (makerOf kind «of_type» address) (now (setup .entry)) source (now (string .entry)) target))
         × (now (room .exit) ≡ roomMaking (now (file .entry)) (reversedOver (now (file .entry)) (makerOf kind «of_type» address) (now (setup .entry)) source (now (string .entry)) target) (now (room .entry))) ⌝ }
 {
-    let reading = planback::read(file);
-    let verdict = reading.answer;
-    let plan = reading.plan;
+    let s = setupbytes::setup_in(setup);
+    let maker = maker_of(kind, of_type, address);
+    let at = making::box_address(maker);
+    let sight = planback::scan(file, at, setup::routing_address(s));
+    let verdict = sight.answer;
+    let v = sight.seen;
     match verdict {
         Verdict::Sound => {
-            let s = setupbytes::setup_in(setup);
-            let maker = maker_of(kind, of_type, address);
-            let m = making::reversed_tested(true, plan, maker, s, source, string, target);
+            let m = making::reversed_seen(true, v, maker, s, source, string, target);
             handed(m, room)
         }
         Verdict::Refused(r) => refused(r),
@@ -367,20 +377,13 @@ pub extern "C" fn dfc_route(
         × (now («target_list» .exit) ≡ targetRouted (now (file .entry)) (now (setup .entry)) (length (now («source_list» .entry))) (length (now («target_list» .entry))) (now («target_list» .entry)))
         × (now (room .exit) ≡ roomRouted (now (file .entry)) (now (setup .entry)) (length (now («source_list» .entry))) (length (now («target_list» .entry))) (now (room .entry))) ⌝ }
 {
-    let reading = planback::read(file);
-    let verdict = reading.answer;
-    let plan = reading.plan;
+    let out = setupbytes::setup_in(setup);
+    let sight = planback::scan(file, out.source, routing::extracted(out));
+    let verdict = sight.answer;
+    let v = sight.seen;
     match verdict {
         Verdict::Sound => {
-            let out = setupbytes::setup_in(setup);
-            let a = routing::route_tested(
-                true,
-                plan,
-                out,
-                Later::Nothing,
-                source_list,
-                target_list,
-            );
+            let a = routing::route_seen(true, v, out, Later::Nothing, source_list, target_list);
             received(a, room)
         }
         Verdict::Refused(r) => not_routed(r),
@@ -570,13 +573,13 @@ pub extern "C" fn dfc_place(
         × (now («target_list» .exit) ≡ targetPlaced (now (file .entry)) (now (setup .entry)) (rowIn (now (row .entry))) (length (now («source_list» .entry))) (length (now («target_list» .entry))) (now («target_list» .entry)))
         × (now (room .exit) ≡ roomPlaced (now (file .entry)) (now (setup .entry)) (rowIn (now (row .entry))) (length (now («source_list» .entry))) (length (now («target_list» .entry))) (now (room .entry))) ⌝ }
 {
-    let reading = planback::read(file);
-    let verdict = reading.answer;
-    let plan = reading.plan;
+    let out = setupbytes::setup_in(setup);
+    let sight = planback::scan(file, out.source, routing::extracted(out));
+    let verdict = sight.answer;
+    let v = sight.seen;
     match verdict {
         Verdict::Sound => {
-            let out = setupbytes::setup_in(setup);
-            let z = rowbytes::place(true, row, plan, out, source_list, target_list);
+            let z = rowbytes::place(true, row, v, out, source_list, target_list);
             let a = z.routed;
             let q = received(a, room);
             placed_as(q, z.record_number, z.use_number)
@@ -604,13 +607,13 @@ pub extern "C" fn dfc_port_place(
         × (now («target_list» .exit) ≡ targetPlaced (now (file .entry)) (now (setup .entry)) (callIn (now (port .entry)) ∷ []) (length (now («source_list» .entry))) (length (now («target_list» .entry))) (now («target_list» .entry)))
         × (now (room .exit) ≡ roomPlaced (now (file .entry)) (now (setup .entry)) (callIn (now (port .entry)) ∷ []) (length (now («source_list» .entry))) (length (now («target_list» .entry))) (now (room .entry))) ⌝ }
 {
-    let reading = planback::read(file);
-    let verdict = reading.answer;
-    let plan = reading.plan;
+    let out = setupbytes::setup_in(setup);
+    let sight = planback::scan(file, out.source, routing::extracted(out));
+    let verdict = sight.answer;
+    let v = sight.seen;
     match verdict {
         Verdict::Sound => {
-            let out = setupbytes::setup_in(setup);
-            let z = rowbytes::port_place(true, port, plan, out, source_list, target_list);
+            let z = rowbytes::port_place(true, port, v, out, source_list, target_list);
             let a = z.routed;
             let q = received(a, room);
             placed_as(q, z.record_number, z.use_number)

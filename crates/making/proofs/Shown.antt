@@ -3,7 +3,6 @@ use mathlib.Core.Path.{_≡_, refl, sym, ap, ap₂, _∙_}
 use mathlib.Core.Bool.{Bool, true, false, not}
 use Prim.Native.Nat.{ℕ}
 use lib.Dec.{eqb}
-use Rattle.plan.specs.declared.Region.{Region}
 use Rattle.plan.specs.declared.Region.the-variants.{Source, Target}
 use Rattle.plan.specs.declared.Subscriber.{Subscriber}
 use Rattle.plan.specs.declared.Types.{Types}
@@ -11,15 +10,13 @@ use Rattle.plan.specs.declared.Plan.{Plan}
 use Rattle.plan.specs.declared.Seen.{Seen}
 use Rattle.plan.specs.declared.Found.{Found}
 use Rattle.plan.specs.declared.Found.the-variants.{At, Nothing}
-use Rattle.plan.specs.Parts.{order, subscribed, noSubscriber}
 use Rattle.plan.specs.Find.{lookup, holderOf, holderAt, seen}
-use Rattle.plan.proofs.Sight.{holder-found, holder-nobody, found-address-shown, nobody-address-shown, seen-types, seen-source, seen-target, seen-second}
+use Rattle.plan.proofs.Sight.{found-address-shown, nobody-address-shown, seen-types, seen-source, seen-target, seen-second}
 use Rattle.zone.specs.declared.Zone.{Zone}
 use Rattle.zone.specs.Order.{zoneList, held}
 use Rattle.zone.specs.Answer.{zoneAt}
-use Rattle.zone.proofs.Zones.{zone-empty}
 use Rattle.zone.proofs.Held.{held-list}
-use Rattle.zone.proofs.PlanZones.{zone-found, zone-nobody}
+use Rattle.zone.proofs.PlanZones.{zone-shown}
 use Rattle.setup.specs.declared.Setup.{Setup}
 use Rattle.setup.specs.Setups.{routingAddress, listOf, faultIn, fault, faultless, wellFormed}
 use Rattle.making.specs.declared.Maker.{Maker}
@@ -61,24 +58,14 @@ held-shown p Error e = refl
 
 -- ---- the zone of an address
 
-nobody-subscribes : (r : Region) → subscribed r noSubscriber ≡ 0
-nobody-subscribes Source = refl
-nobody-subscribes Target = refl
-
-pub zone-of-holder : (p : Plan) (r : Region) (a : ℕ) → zoneAt p r a ≡ zoneList (order r p) (subscribed r (holderAt p a))
-zone-of-holder p r a = go (lookup p a) refl where
-  go : (f : Found) → lookup p a ≡ f → zoneAt p r a ≡ zoneList (order r p) (subscribed r (holderAt p a))
-  go (At i) e = zone-found p r a i e ∙ sym (ap (λ (s : Subscriber). zoneList (order r p) (subscribed r s)) (holder-found p a i e))
-  go Nothing e = zone-nobody p r a e ∙ sym (rw (holder-nobody p a e, nobody-subscribes r) (zone-empty (order r p)))
-
 module _ (p : Plan) (first second : ℕ) {v : Seen} (e : seen p first second ≡ v) where
   pub source-zone-seen : zoneAt p Source second ≡ zoneList (v .«source_order») (v .second .source)
   source-zone-seen =
-      zone-of-holder p Source second ∙ ap₂ zoneList (seen-source p first second e) (ap (λ (s : Subscriber). s .source) (seen-second p first second e))
+      zone-shown p Source second ∙ ap₂ zoneList (seen-source p first second e) (ap (λ (s : Subscriber). s .source) (seen-second p first second e))
 
   pub target-zone-seen : zoneAt p Target second ≡ zoneList (v .«target_order») (v .second .target)
   target-zone-seen =
-      zone-of-holder p Target second ∙ ap₂ zoneList (seen-target p first second e) (ap (λ (s : Subscriber). s .target) (seen-second p first second e))
+      zone-shown p Target second ∙ ap₂ zoneList (seen-target p first second e) (ap (λ (s : Subscriber). s .target) (seen-second p first second e))
 
   -- ---- the types
 

@@ -1,11 +1,12 @@
 -- `dfc::dfc_check` meets its contract. Assumes nothing.
 use Rattle.dfc.specs.Files.{checked}
+use Rattle.dfc.proofs.Sights.{sight-answer}
 use borrow.Author.Needs.{needs}
 use Rattle.dfc.proofs.dfc_check.Statement.{statement}
 use Rattle.dfc.proofs.dfc_check.Tie as tie
 
-read-requires : tie.Need-read-requires
-read-requires c κs = search needs
+scan-requires : tie.Need-scan-requires
+scan-requires c κs = search needs
 
 enum-told : tie.Need-enum-told
 enum-told c = search needs
@@ -21,17 +22,17 @@ refused-requires c κs = search needs
 
 returns : tie.Need-returns
 unfolding checked
-returns c = rw (← c .before .before .before .read .ensures .0, c .before .enum-told .given .1) (c .accepted .ensures)
+returns c = let e = sight-answer (c .before .before .before .before .before .args .file .now) 0 0 (c .before .before .before .scan .ensures .0) (c .before .enum-told .given .1) in rw e (c .accepted .ensures)
 
 returns-2 : tie.Need-returns-2
 unfolding checked
-returns-2 c = rw (← c .before .before .before .before .read .ensures .0, c .before .before .verdict .given .1) (c .refused .ensures)
+returns-2 c = let e = sight-answer (c .before .before .before .before .before .before .args .file .now) 0 0 (c .before .before .before .before .scan .ensures .0) (c .before .before .verdict .given .1) in rw e (c .refused .ensures)
 
 pub dfc-check-spec : {M : Type 1} → statement M
 dfc-check-spec =
     tie.close
     (tie.spec
-    read-requires
+    scan-requires
     enum-told
     accepted-requires
     enum-known-verdict

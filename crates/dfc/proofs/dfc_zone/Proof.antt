@@ -4,12 +4,14 @@ use Rattle.zone.specs.declared.Zone.{Zone}
 use Rattle.zone.specs.Order.{held}
 use Rattle.dfc.specs.Said.{accepted}
 use Rattle.dfc.specs.Files.{zoned, typesZoned}
+use Rattle.planread.specs.Reading.{readOf}
+use Rattle.dfc.proofs.Sights.{sight-answer, sight-seen}
 use borrow.Author.Needs.{needs}
 use Rattle.dfc.proofs.dfc_zone.Statement.{statement}
 use Rattle.dfc.proofs.dfc_zone.Tie as tie
 
-read-requires : tie.Need-read-requires
-read-requires c κs = search needs
+scan-requires : tie.Need-scan-requires
+scan-requires c κs = search needs
 
 enum-told : tie.Need-enum-told
 enum-told c = search needs
@@ -17,8 +19,8 @@ enum-told c = search needs
 region-of-requires : tie.Need-region-of-requires
 region-of-requires c κs = search needs
 
-zone-at-requires : tie.Need-zone-at-requires
-zone-at-requires c κs = search needs
+zone-shown-requires : tie.Need-zone-shown-requires
+zone-shown-requires c κs = search needs
 
 types-of-requires : tie.Need-types-of-requires
 types-of-requires c κs = search needs
@@ -37,23 +39,27 @@ refused-requires c κs = search needs
 
 returns : tie.Need-returns
 unfolding zoned typesZoned held
-returns c = (
-  rw (← c .before .before .before .before .before .before .before .read .ensures .0, c .before .before .before .before .before .enum-told .given .1, ← c .before .before .before .before .region-of .ensures) (c .accepted .ensures ∙ ap (λ (z : Zone). accepted (z .len)) (c .before .before .before .zone-at .ensures)),
-  rw (← c .before .before .before .before .before .before .before .read .ensures .0, c .before .before .before .before .before .enum-told .given .1, ← c .before .before .before .before .region-of .ensures) (c .before .before .types-of .ensures ∙ ap (λ (z : Zone). z .types) (c .before .before .before .zone-at .ensures)),
-)
+returns c =
+    let e = sight-answer (c .before .before .before .before .before .before .before .before .before .before .args .file .now) (c .before .before .before .before .before .before .before .before .before .before .args .address) 0 (c .before .before .before .before .before .before .before .before .scan .ensures .0) (c .before .before .before .before .before .enum-told .given .1) in
+    let shown = c .before .before .before .zone-shown .ensures (readOf (c .before .before .before .before .before .before .before .before .before .before .args .file .now) .plan) (c .before .before .before .before .before .before .before .before .before .before .args .address) 0 (sight-seen (c .before .before .before .before .before .before .before .before .before .before .args .file .now) (c .before .before .before .before .before .before .before .before .before .before .args .address) 0 (c .before .before .before .before .before .before .before .before .scan .ensures .0)) in (
+      rw (e, ← c .before .before .before .before .region-of .ensures) (c .accepted .ensures ∙ ap (λ (z : Zone). accepted (z .len)) shown),
+      rw (e, ← c .before .before .before .before .region-of .ensures) (c .before .before .types-of .ensures ∙ ap (λ (z : Zone). z .types) shown),
+    )
 
 returns-2 : tie.Need-returns-2
 unfolding zoned typesZoned
-returns-2 c = (rw (← c .before .before .before .before .read .ensures .0, c .before .before .verdict .given .1) (c .refused .ensures), rw (← c .before .before .before .before .read .ensures .0, c .before .before .verdict .given .1) refl)
+returns-2 c =
+    let e = sight-answer (c .before .before .before .before .before .before .before .args .file .now) (c .before .before .before .before .before .before .before .args .address) 0 (c .before .before .before .before .before .scan .ensures .0) (c .before .before .verdict .given .1) in
+    (rw e (c .refused .ensures), rw e refl)
 
 pub dfc-zone-spec : {M : Type 1} → statement M
 dfc-zone-spec =
     tie.close
     (tie.spec
-    read-requires
+    scan-requires
     enum-told
     region-of-requires
-    zone-at-requires
+    zone-shown-requires
     types-of-requires
     cast-accepted
     accepted-requires
