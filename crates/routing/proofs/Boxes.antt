@@ -6,7 +6,7 @@ use Prim.Native.Nat.{ℕ, _≤_, _<_, min}
 use native.Mathlib.Omega.{arith}
 use lib.Dec.{eqb}
 use borrow.Author.Tests.{eq-eqb, ne-eqb}
-use Rattle.typeset.proofs.Bools.{yes-or-no}
+use Rattle.typeset.proofs.Bools.{yes-or-no, clash}
 use Rattle.plan.specs.declared.Subscriber.{Subscriber}
 use Rattle.plan.specs.declared.Plan.{Plan}
 use Rattle.plan.specs.declared.Found.{Found}
@@ -15,9 +15,12 @@ use Rattle.plan.specs.Parts.{at, box}
 use Rattle.plan.specs.Sound.{sound}
 use Rattle.plan.specs.Find.{used, lookup, holderOf, holderAt}
 use Rattle.plan.proofs.Lookup.{found-used}
+use Rattle.plan.proofs.Sight.{found-address-shown}
 use Rattle.plan.proofs.Holders.{line-one, resource-some, mobile-none}
 use Rattle.routing.specs.declared.Callee.{Callee}
 use Rattle.routing.specs.declared.Callee.the-variants.{Feature, Line, Trunk, Resource, Error}
+use Rattle.routing.specs.declared.Who.the-variants.{Somebody, Nobody}
+use Rattle.routing.specs.Places.{whoIs}
 use Rattle.routing.specs.Interface.{isFeature, addressOf, boxOf, firstBox, foundBox, interfaceAt}
 
 record Interface (c : Callee) (a : ℕ) : Type 0 where
@@ -73,6 +76,23 @@ interface-shown p a e = shown-of p (lookup p a) a ∙ ap (λ (s : Subscriber). f
 pub nobody-error : (p : Plan) (a : ℕ) → lookup p a ≡ Nothing → interfaceAt p a ≡ Error a
 unfolding interfaceAt foundBox
 nobody-error p a e = rw e
+
+-- nobody is shown exactly where the address shown is 0
+pub unshown-error : (p : Plan) (a : ℕ) {s : Subscriber} → holderAt p a ≡ s → eqb (s .address) 0 ≡ true → interfaceAt p a ≡ Error a
+unshown-error p a {s} shown none = by-look (lookup p a) refl
+  where
+    by-look : (f : Found) → lookup p a ≡ f → interfaceAt p a ≡ Error a
+    by-look (At i) e = absurd (clash none (ap (λ (z : Subscriber). eqb (z .address) 0) (sym shown) ∙ found-address-shown p a i e))
+    by-look Nothing e = nobody-error p a e
+
+pub told-nobody : (s : Subscriber) → whoIs s ≡ Nobody → eqb (s .address) 0 ≡ true
+told-nobody s e =
+    ⊎-elim (λ yes. yes)
+    (λ (no : eqb (s .address) 0 ≡ false).
+    let somebody : whoIs s ≡ Somebody (s .kind) = rw no refl in
+    let never : _≡_ {A = ℕ} 0 1 = cc in
+    absurd (omega arith))
+    (yes-or-no (eqb (s .address) 0))
 
 module _ (p : Plan) (𝓢 : sound p ≡ true) (a i : ℕ) (found : lookup p a ≡ At i) where
   in-use : i < p .count

@@ -1,12 +1,14 @@
 -- Where the route lies in the two lent lists: what is left of it is an end part of the zone that the region chooses. The parts of the program that work on the lists promise these;
 -- that they are the steps of routing is proved (proofs/Parts.antt). Assumes nothing.
 use Prim.Native.Nat.{ℕ, _-_}
-use mathlib.Core.Bool.{Bool}
+use mathlib.Core.Bool.{Bool, cond}
 use mathlib.Core.List.{List}
+use lib.Dec.{eqb}
 use lib.ListN.{length, drop}
 use Rattle.refusal.specs.declared.Refusal.the-variants.{RuleBroken, Malformed, ListTooShort}
 use Rattle.plan.specs.declared.Region.{Region}
 use Rattle.plan.specs.declared.Region.the-variants.{Source, Target}
+use Rattle.plan.specs.declared.Subscriber.{Subscriber}
 use Rattle.plan.specs.declared.Plan.{Plan}
 use Rattle.zone.specs.declared.Zone.{Zone}
 use Rattle.setup.specs.declared.Route.{Route}
@@ -16,6 +18,8 @@ use Rattle.setup.specs.declared.Placing.the-variants.{NoPlacing, PlacedBy}
 use Rattle.setup.specs.declared.Outer.{Outer}
 use Rattle.setup.specs.declared.Setup.{Setup}
 use Rattle.setup.specs.Setups.{faultIn, faultless}
+use Rattle.routing.specs.declared.Who.{Who}
+use Rattle.routing.specs.declared.Who.the-variants.{Somebody, Nobody}
 use Rattle.routing.specs.declared.Later.{Later}
 use Rattle.routing.specs.declared.Outcome.the-variants.{Routed}
 use Rattle.routing.specs.declared.Answer.{Answer}
@@ -56,3 +60,7 @@ settledIn kept zone reversible out later sourceRoom targetRoom =
     unless kept (RuleBroken 0)
     (unless (faultless (faultIn zone reversible out)) Malformed
     (unless (roomy sourceRoom targetRoom) ListTooShort later))
+
+-- ---- the look-up, where a plan shows the subscriber: nobody has the address 0
+abbrev pub whoIs : Subscriber → Who
+whoIs s = cond (eqb (s .address) 0) Nobody (Somebody (s .kind))

@@ -9,10 +9,10 @@ ghost use Rattle.setup.specs.Dialling.{stringOf};
 ghost use Rattle.setup.specs.Setups.{routingAddress, listOf};
 ghost use Rattle.embedded.specs.Embedded.{embedded};
 ghost use Rattle.routing.specs.declared.Later.the-variants.{Nothing};
-ghost use Rattle.routing.specs.Interface.{boxOf, firstBox};
+ghost use Rattle.routing.specs.Interface.{boxOf, firstBox, interfaceAt};
 ghost use Rattle.routing.specs.Steps.{dials, target1, placeOf, before, exhausted, tail, callee4, received4};
 ghost use Rattle.routing.specs.Routing.{roomy, refusedWith, outcome, outcomeBy, answer, answerBy, sourceList, targetList};
-ghost use Rattle.routing.specs.Places.{listIn, zoneIn, suffixBegins, begins, delivered, advanced, settledIn};
+ghost use Rattle.routing.specs.Places.{whoIs, listIn, zoneIn, suffixBegins, begins, delivered, advanced, settledIn};
 use embedded::Dials;
 use plan::Plan;
 use plan::Region;
@@ -33,6 +33,12 @@ pub enum Callee {
     Trunk(u16, u32),
     Resource(u16, u32),
     Error(u32),
+}
+
+// Who has an address: somebody, of this kind, or nobody.
+enum Who {
+    Somebody(u8),
+    Nobody,
 }
 
 // A refusal of the caller's own that comes after routing's: nothing, or the refusal.
@@ -110,6 +116,27 @@ fn first_box(s: Subscriber, address: u32) -> Callee
         return Callee::Error(address);
     }
     box_of(s.kind, boxes[0], address)
+}
+
+// The look-up of an address of which a plan shows the subscriber: nobody has the address 0.
+fn look_up(holder: Subscriber) -> Who
+    ensures { λ r. ⌜ r ≡ whoIs holder ⌝ }
+{
+    if holder.address == 0 {
+        Who::Nobody
+    } else {
+        Who::Somebody(holder.kind)
+    }
+}
+
+// The interface box of an address of which a plan shows the subscriber, or the error box.
+fn interface_of(holder: Subscriber, address: u32) -> Callee
+    ensures { λ r. ⌜ ((p : Plan) → holderAt p address ≡ holder → r ≡ interfaceAt p address) ⌝ }
+{
+    let Who::Somebody(_) = look_up(holder) else {
+        return Callee::Error(address);
+    };
+    first_box(holder, address)
 }
 
 // ---- step 2: expand the route
@@ -220,7 +247,7 @@ fn box_chosen(holder: Subscriber, source: u32, target: u32, region: Region, rest
     ensures { λ r. ⌜ ((p : Plan) → holderAt p target ≡ holder → r ≡ callee4 p source target region (now (rest .entry))) ⌝ }
 {
     if rest.len() == 0 {
-        return first_box(holder, target);
+        return interface_of(holder, target);
     }
     Callee::Feature(rest[0], setup::routing(region, source, target))
 }

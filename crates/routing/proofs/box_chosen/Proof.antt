@@ -3,20 +3,19 @@ use mathlib.Core.Path.{sym, _∙_}
 use Rattle.setup.specs.Setups.{routing}
 use Rattle.routing.specs.Interface.{interfaceAt}
 use Rattle.routing.specs.Steps.{callee4}
-use Rattle.routing.proofs.Boxes.{interface-shown}
 use Rattle.routing.proofs.Chosen.{chosen-none, chosen-some}
 use borrow.Author.Needs.{needs}
 use Rattle.routing.proofs.box_chosen.Statement.{statement}
 use Rattle.routing.proofs.box_chosen.Tie as tie
 
-first-box-requires : tie.Need-first-box-requires
-first-box-requires c κs = search needs
+interface-of-requires : tie.Need-interface-of-requires
+interface-of-requires c κs = search needs
 
 returns : tie.Need-returns
 unfolding callee4
 returns c p shown =
     let a = c .before .before .before .args in
-    c .first-box .ensures ∙ sym (interface-shown p (a .target) shown) ∙ sym (chosen-none (a .rest .now) _ _ (c .before .if1 .taken))
+    c .interface-of .ensures p shown ∙ sym (chosen-none (a .rest .now) _ _ (c .before .if1 .taken))
 
 shared-slice-read-t9 : tie.Need-shared-slice-read-t9
 shared-slice-read-t9 c = search needs
@@ -33,4 +32,4 @@ returns-2 c p shown =
 pub box-chosen-spec : {M : Type 1} → statement M
 box-chosen-spec =
     tie.close
-    (tie.spec first-box-requires returns shared-slice-read-t9 routing-requires returns-2)
+    (tie.spec interface-of-requires returns shared-slice-read-t9 routing-requires returns-2)
