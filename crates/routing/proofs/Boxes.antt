@@ -6,7 +6,7 @@ use Prim.Native.Nat.{ℕ, _≤_, _<_, min}
 use native.Mathlib.Omega.{arith}
 use lib.Dec.{eqb}
 use borrow.Author.Tests.{eq-eqb, ne-eqb}
-use Rattle.typeset.proofs.Bools.{yes-or-no, clash}
+use Rattle.typeset.proofs.Bools.{yes-or-no}
 use Rattle.plan.specs.declared.Subscriber.{Subscriber}
 use Rattle.plan.specs.declared.Plan.{Plan}
 use Rattle.plan.specs.declared.Found.{Found}
@@ -15,12 +15,11 @@ use Rattle.plan.specs.Parts.{at, box}
 use Rattle.plan.specs.Sound.{sound}
 use Rattle.plan.specs.Find.{used, lookup, holderOf, holderAt}
 use Rattle.plan.proofs.Lookup.{found-used}
-use Rattle.plan.proofs.Sight.{found-address-shown}
 use Rattle.plan.proofs.Holders.{line-one, resource-some, mobile-none}
 use Rattle.routing.specs.declared.Callee.{Callee}
 use Rattle.routing.specs.declared.Callee.the-variants.{Feature, Line, Trunk, Resource, Error}
-use Rattle.routing.specs.declared.Who.the-variants.{Somebody, Nobody}
-use Rattle.routing.specs.Places.{whoIs}
+use Rattle.routing.specs.declared.First.the-variants.{Box, Nothing as NoBox}
+use Rattle.routing.specs.Places.{firstListed}
 use Rattle.routing.specs.Interface.{isFeature, addressOf, boxOf, firstBox, foundBox, interfaceAt}
 
 record Interface (c : Callee) (a : ℕ) : Type 0 where
@@ -77,22 +76,32 @@ pub nobody-error : (p : Plan) (a : ℕ) → lookup p a ≡ Nothing → interface
 unfolding interfaceAt foundBox
 nobody-error p a e = rw e
 
--- nobody is shown exactly where the address shown is 0
-pub unshown-error : (p : Plan) (a : ℕ) {s : Subscriber} → holderAt p a ≡ s → eqb (s .address) 0 ≡ true → interfaceAt p a ≡ Error a
-unshown-error p a {s} shown none = by-look (lookup p a) refl
-  where
-    by-look : (f : Found) → lookup p a ≡ f → interfaceAt p a ≡ Error a
-    by-look (At i) e = absurd (clash none (ap (λ (z : Subscriber). eqb (z .address) 0) (sym shown) ∙ found-address-shown p a i e))
-    by-look Nothing e = nobody-error p a e
-
-pub told-nobody : (s : Subscriber) → whoIs s ≡ Nobody → eqb (s .address) 0 ≡ true
-told-nobody s e =
-    ⊎-elim (λ yes. yes)
-    (λ (no : eqb (s .address) 0 ≡ false).
-    let somebody : whoIs s ≡ Somebody (s .kind) = rw no refl in
+-- the first listed box as the look-up tells it
+pub none-listed : (s : Subscriber) (a : ℕ) → firstListed s ≡ NoBox → firstBox s a ≡ Error a
+unfolding firstBox
+none-listed s a e =
+    ⊎-elim (λ (yes : eqb (s .count) 0 ≡ true). rw yes)
+    (λ (no : eqb (s .count) 0 ≡ false).
+    let some : firstListed s ≡ Box (s .kind) (box s 0) = rw no in
     let never : _≡_ {A = ℕ} 0 1 = cc in
     absurd (omega arith))
-    (yes-or-no (eqb (s .address) 0))
+    (yes-or-no (eqb (s .count) 0))
+
+pub one-listed : (s : Subscriber) (a kind n : ℕ) → firstListed s ≡ Box kind n → firstBox s a ≡ boxOf kind n a
+unfolding firstBox
+one-listed s a kind n e =
+    ⊎-elim
+    (λ (yes : eqb (s .count) 0 ≡ true).
+    let none : firstListed s ≡ NoBox = rw yes in
+    let never : _≡_ {A = ℕ} 0 1 = cc in
+    absurd (omega arith))
+    (λ (no : eqb (s .count) 0 ≡ false).
+    let some : firstListed s ≡ Box (s .kind) (box s 0) = rw no in
+    let same : Box (s .kind) (box s 0) ≡ Box kind n = sym some ∙ e in
+    let kinds : s .kind ≡ kind = cc in
+    let numbers : box s 0 ≡ n = cc in
+    rw (no, kinds, numbers))
+    (yes-or-no (eqb (s .count) 0))
 
 module _ (p : Plan) (𝓢 : sound p ≡ true) (a i : ℕ) (found : lookup p a ≡ At i) where
   in-use : i < p .count

@@ -10,6 +10,7 @@ use Rattle.plan.specs.declared.Region.{Region}
 use Rattle.plan.specs.declared.Region.the-variants.{Source, Target}
 use Rattle.plan.specs.declared.Subscriber.{Subscriber}
 use Rattle.plan.specs.declared.Plan.{Plan}
+use Rattle.plan.specs.Parts.{box}
 use Rattle.zone.specs.declared.Zone.{Zone}
 use Rattle.setup.specs.declared.Route.{Route}
 use Rattle.setup.specs.declared.Route.the-variants.{Whole, Suffix, Listed}
@@ -18,8 +19,8 @@ use Rattle.setup.specs.declared.Placing.the-variants.{NoPlacing, PlacedBy}
 use Rattle.setup.specs.declared.Outer.{Outer}
 use Rattle.setup.specs.declared.Setup.{Setup}
 use Rattle.setup.specs.Setups.{faultIn, faultless}
-use Rattle.routing.specs.declared.Who.{Who}
-use Rattle.routing.specs.declared.Who.the-variants.{Somebody, Nobody}
+use Rattle.routing.specs.declared.First.{First}
+use Rattle.routing.specs.declared.First.the-variants.{Box, Nothing as NoBox}
 use Rattle.routing.specs.declared.Later.{Later}
 use Rattle.routing.specs.declared.Outcome.the-variants.{Routed}
 use Rattle.routing.specs.declared.Answer.{Answer}
@@ -61,6 +62,6 @@ settledIn kept zone reversible out later sourceRoom targetRoom =
     (unless (faultless (faultIn zone reversible out)) Malformed
     (unless (roomy sourceRoom targetRoom) ListTooShort later))
 
--- ---- the look-up, where a plan shows the subscriber: nobody has the address 0
-abbrev pub whoIs : Subscriber → Who
-whoIs s = cond (eqb (s .address) 0) Nobody (Somebody (s .kind))
+-- ---- the look-up of an interface box: the first that the subscriber lists, or nothing
+abbrev pub firstListed : Subscriber → First
+firstListed s = cond (eqb (s .count) 0) NoBox (Box (s .kind) (box s 0))

@@ -9,10 +9,10 @@ ghost use Rattle.setup.specs.Dialling.{stringOf};
 ghost use Rattle.setup.specs.Setups.{routingAddress, listOf};
 ghost use Rattle.embedded.specs.Embedded.{embedded};
 ghost use Rattle.routing.specs.declared.Later.the-variants.{Nothing};
-ghost use Rattle.routing.specs.Interface.{boxOf, firstBox, interfaceAt};
+ghost use Rattle.routing.specs.Interface.{boxOf, firstBox};
 ghost use Rattle.routing.specs.Steps.{dials, target1, placeOf, before, exhausted, tail, callee4, received4};
 ghost use Rattle.routing.specs.Routing.{roomy, refusedWith, outcome, outcomeBy, answer, answerBy, sourceList, targetList};
-ghost use Rattle.routing.specs.Places.{whoIs, listIn, zoneIn, suffixBegins, begins, delivered, advanced, settledIn};
+ghost use Rattle.routing.specs.Places.{firstListed, listIn, zoneIn, suffixBegins, begins, delivered, advanced, settledIn};
 use embedded::Dials;
 use plan::Plan;
 use plan::Region;
@@ -35,10 +35,10 @@ pub enum Callee {
     Error(u32),
 }
 
-// Who has an address: somebody, of this kind, or nobody.
-enum Who {
-    Somebody(u8),
-    Nobody,
+// The first box that a subscriber lists, by kind and number, or nothing.
+enum First {
+    Box(u8, u16),
+    Nothing,
 }
 
 // A refusal of the caller's own that comes after routing's: nothing, or the refusal.
@@ -108,35 +108,26 @@ fn box_of(kind: u8, number: u16, address: u32) -> Callee
     Callee::Error(address)
 }
 
-fn first_box(s: Subscriber, address: u32) -> Callee
-    ensures { λ r. ⌜ r ≡ firstBox s address ⌝ }
+// The look-up of the box that an address leads to, by the subscriber whom a plan shows for it: the first one listed. Nobody lists any.
+fn look_up(holder: Subscriber) -> First
+    ensures { λ r. ⌜ r ≡ firstListed holder ⌝ }
 {
-    let boxes = s.boxes;
-    if s.count == 0 {
-        return Callee::Error(address);
-    }
-    box_of(s.kind, boxes[0], address)
-}
-
-// The look-up of an address of which a plan shows the subscriber: nobody has the address 0.
-fn look_up(holder: Subscriber) -> Who
-    ensures { λ r. ⌜ r ≡ whoIs holder ⌝ }
-{
-    if holder.address == 0 {
-        Who::Nobody
+    let boxes = holder.boxes;
+    if holder.count == 0 {
+        First::Nothing
     } else {
-        Who::Somebody(holder.kind)
+        First::Box(holder.kind, boxes[0])
     }
 }
 
-// The interface box of an address of which a plan shows the subscriber, or the error box.
+// The interface box of an address, or the error box.
 fn interface_of(holder: Subscriber, address: u32) -> Callee
-    ensures { λ r. ⌜ ((p : Plan) → holderAt p address ≡ holder → r ≡ interfaceAt p address) ⌝ }
+    ensures { λ r. ⌜ r ≡ firstBox holder address ⌝ }
 {
-    let Who::Somebody(_) = look_up(holder) else {
+    let First::Box(kind, number) = look_up(holder) else {
         return Callee::Error(address);
     };
-    first_box(holder, address)
+    box_of(kind, number, address)
 }
 
 // ---- step 2: expand the route

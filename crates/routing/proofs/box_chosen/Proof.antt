@@ -3,6 +3,7 @@ use mathlib.Core.Path.{sym, _∙_}
 use Rattle.setup.specs.Setups.{routing}
 use Rattle.routing.specs.Interface.{interfaceAt}
 use Rattle.routing.specs.Steps.{callee4}
+use Rattle.routing.proofs.Boxes.{interface-shown}
 use Rattle.routing.proofs.Chosen.{chosen-none, chosen-some}
 use borrow.Author.Needs.{needs}
 use Rattle.routing.proofs.box_chosen.Statement.{statement}
@@ -15,7 +16,7 @@ returns : tie.Need-returns
 unfolding callee4
 returns c p shown =
     let a = c .before .before .before .args in
-    c .interface-of .ensures p shown ∙ sym (chosen-none (a .rest .now) _ _ (c .before .if1 .taken))
+    c .interface-of .ensures ∙ sym (interface-shown p (a .target) shown) ∙ sym (chosen-none (a .rest .now) _ _ (c .before .if1 .taken))
 
 shared-slice-read-t9 : tie.Need-shared-slice-read-t9
 shared-slice-read-t9 c = search needs

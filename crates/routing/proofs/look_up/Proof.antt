@@ -1,14 +1,17 @@
 -- `routing::look_up` meets its contract. Assumes nothing.
-use mathlib.Core.Path.{refl}
+use borrow.Author.Needs.{needs}
 use borrow.Author.Tests.{eq-eqb, ne-eqb}
 use Rattle.routing.proofs.look_up.Statement.{statement}
 use Rattle.routing.proofs.look_up.Tie as tie
 
+array-read-t7 : tie.Need-array-read-t7
+array-read-t7 c = search needs
+
 returns : tie.Need-returns
-returns c = rw (eq-eqb _ 0 (c .if1 .taken)) refl
+returns c = rw (eq-eqb _ 0 (c .if1 .taken))
 
 returns-2 : tie.Need-returns-2
-returns-2 c = rw (ne-eqb _ 0 (c .if1 .left)) refl
+returns-2 c = rw (ne-eqb _ 0 (c .if1 .left))
 
 pub look-up-spec : {M : Type 1} → statement M
-look-up-spec = tie.close (tie.spec returns returns-2)
+look-up-spec = tie.close (tie.spec array-read-t7 returns returns-2)
