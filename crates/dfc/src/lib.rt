@@ -121,7 +121,7 @@ fn types_of(zone: Zone) -> [u8; 32]
     zone.types
 }
 
-// The zone of the first address of which a plan shows something.
+// The zone of the address that is shown first.
 fn zone_shown(region: Region, v: Seen) -> Zone
     ensures { λ r. ⌜ ((p : Plan) (first second : ℕ) → seen p first second ≡ v → r ≡ held (zoneAt p region first)) ⌝ }
 {

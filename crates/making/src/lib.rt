@@ -341,7 +341,7 @@ pub fn new_seen(kept: bool, v: Seen, maker: Maker, string: &[u8], target_arg: u3
 }
 
 // A new setup by a verdict on the plan, for a caller that has it already: `kept` says whether the plan is sound. Nothing else is taken on trust.
-pub fn new_tested(kept: bool, plan: Plan, maker: Maker, string: &[u8], target_arg: u32) -> Answer
+fn new_tested(kept: bool, plan: Plan, maker: Maker, string: &[u8], target_arg: u32) -> Answer
     ensures { λ r. ⌜ r ≡ newAnswerBy kept plan maker (now (string .entry)) «target_arg» ⌝ }
 {
     let v = plan::look(plan, box_address(maker), 0);
@@ -376,7 +376,7 @@ pub fn continued_seen(
 }
 
 // A setup continued by a verdict on the plan, for a caller that has it already: `kept` says whether the plan is sound. Nothing else is taken on trust.
-pub fn continued_tested(
+fn continued_tested(
     kept: bool,
     plan: Plan,
     maker: Maker,
@@ -433,7 +433,7 @@ pub fn reversed_seen(
 }
 
 // A setup reversed by a verdict on the plan, for a caller that has it already: `kept` says whether the plan is sound. Nothing else is taken on trust.
-pub fn reversed_tested(
+fn reversed_tested(
     kept: bool,
     plan: Plan,
     maker: Maker,

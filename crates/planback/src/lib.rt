@@ -1,5 +1,5 @@
 // The theorems of the plan file, brought to any plan that a program holds: its numbers fit their fields and its arrays have their lengths, and written and read again it is
-// the same plan.
+// the same plan; and to any file: what is accepted is sound, read or looked through, and written again it is the same bytes.
 ghost use mathlib.Core.Path.{_≡_};
 ghost use mathlib.Core.Bool.{true};
 ghost use Prim.Native.Nat.{_^_, _<_, _≤_};

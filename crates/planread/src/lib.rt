@@ -564,7 +564,7 @@ fn scan_subscribers(
     }
 }
 
-// What the plan shows of two addresses whose file any bytes are; or the refusal that reading them has.
+// What the plan whose file any bytes are shows of two addresses; or the refusal that reading them has.
 pub fn scan(bytes: &[u8], first: u32, second: u32) -> Sight
     ensures { λ r. ⌜ r ≡ scanned first second (readOf (now (bytes .entry))) ⌝ }
 {

@@ -430,7 +430,7 @@ pub fn route_seen(
 }
 
 // Routing by a verdict on the plan, for a caller that has it already: `kept` says whether the plan is sound. Nothing else is taken on trust.
-pub fn route_tested(
+fn route_tested(
     kept: bool,
     plan: Plan,
     out: Setup,

@@ -131,7 +131,7 @@ fn wide(b: u8) -> u16
     b as u16
 }
 
-// The use number of a record, by its two bytes; 0 where the row has no such record. Placing needs no more of a record, so that none is read whole.
+// The use number of a record, by its two bytes; 0 where the row has no such record. Placing in a row needs no more of a record, so that none is read whole; a port's one is.
 fn use_at(row: &[u8], r: usize) -> u16
     ensures { λ u. ⌜ u ≡ recordAt (rowIn (now (row .entry))) r .«use_number» ⌝ }
 {
