@@ -65,11 +65,11 @@ fn row_sound(chosen: u32, rows: &[u32; 32], t: u32) -> bool
 }
 
 // Whether the order of a region with this choice keeps L2 to L5.
-pub fn order_sound(chosen: u32, rows: [u32; 32]) -> bool
-    ensures { λ r. ⌜ r ≡ orderSound chosen rows ⌝ }
+pub fn order_sound(chosen: u32, rows: &[u32; 32]) -> bool
+    ensures { λ r. ⌜ r ≡ orderSound chosen (now (rows .entry)) ⌝ }
 {
     for t in 0u32..32u32 {
-        if !row_sound(chosen, &rows, t) {
+        if !row_sound(chosen, rows, t) {
             return false;
         }
     }
@@ -119,13 +119,13 @@ fn ordered_at(reversible: u32, source: &[u32; 32], a: u32) -> bool
 }
 
 // L8: whether any two of these types are ordered.
-pub fn reversible_ordered(reversible: u32, source: [u32; 32]) -> bool
-    ensures { λ r. ⌜ r ≡ reversibleOrdered reversible source ⌝ }
+pub fn reversible_ordered(reversible: u32, source: &[u32; 32]) -> bool
+    ensures { λ r. ⌜ r ≡ reversibleOrdered reversible (now (source .entry)) ⌝ }
 {
     let mut left = reversible;
     while left != 0 {
         let a = typeset::lowest(left);
-        if !ordered_at(reversible, &source, a) {
+        if !ordered_at(reversible, source, a) {
             return false;
         }
         left = typeset::without(left, a);
@@ -168,13 +168,13 @@ fn opposed_at(reversible: u32, source: &[u32; 32], target: &[u32; 32], a: u32) -
 }
 
 // L9: whether any two of these types are ordered one way in the source order and the other way in the target order.
-pub fn reversible_opposed(reversible: u32, source: [u32; 32], target: [u32; 32]) -> bool
-    ensures { λ r. ⌜ r ≡ reversibleOpposed reversible source target ⌝ }
+pub fn reversible_opposed(reversible: u32, source: &[u32; 32], target: &[u32; 32]) -> bool
+    ensures { λ r. ⌜ r ≡ reversibleOpposed reversible (now (source .entry)) (now (target .entry)) ⌝ }
 {
     let mut left = reversible;
     while left != 0 {
         let a = typeset::lowest(left);
-        if !opposed_at(reversible, &source, &target, a) {
+        if !opposed_at(reversible, source, target, a) {
             return false;
         }
         left = typeset::without(left, a);

@@ -116,9 +116,8 @@ pub fn rewrite(file: &[u8], room: &mut [u8]) -> Written
     ensures { λ r. ⌜ (r ≡ rewrites (readOf (now (file .entry))) (now (room .entry))) × (now (room .exit) ≡ roomRewritten (readOf (now (file .entry))) (now (room .entry))) ⌝ }
 {
     all_bytes(file);
-    let sight = planread::scan(file, 0, 0);
-    let verdict = sight.answer;
-    match verdict {
+    let answer = planread::verdict(file);
+    match answer {
         Verdict::Refused(r) => Written::Refused(r),
         Verdict::Sound => {
             if room.len() < file.len() {

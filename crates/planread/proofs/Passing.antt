@@ -10,13 +10,16 @@ use lib.ListN.{length, set, replicate}
 use Rattle.refusal.specs.declared.Refusal.{Refusal}
 use Rattle.typeset.proofs.Bools.{yes-or-no}
 use Rattle.plan.specs.declared.Types.{Types}
+use Rattle.plan.specs.declared.Verdict.{Verdict}
+use Rattle.plan.specs.declared.Verdict.the-variants.{Sound, Refused}
 use Rattle.plan.specs.declared.Subscriber.{Subscriber}
 use Rattle.plan.specs.Parts.{noSubscriber}
 use Rattle.plan.specs.Find.{holderAt, seen}
 use Rattle.plan.proofs.Sight.{holder-new, holder-kept, holder-none}
 use Rattle.planread.specs.declared.Reading.{Reading}
+use Rattle.planread.specs.declared.Sight.{Sight}
 use Rattle.planread.specs.Reading.{planOf, blankPlan, refused, ended}
-use Rattle.planread.specs.Scanning.{scanned, unseen, shownEnd}
+use Rattle.planread.specs.Scanning.{scanned, unseen, shownEnd, sighted}
 use Rattle.planread.proofs.Places.{set-alike, set-there}
 use Rattle.planread.proofs.Going.{Going, going-none}
 
@@ -51,6 +54,24 @@ module _ (bs : List ℕ) (t : Types) (source target : List ℕ) (first second : 
         sym (holder-kept (planOf t source target subs count) (planOf t source target (set subs count s) (count + 1)) s t room refl (set-alike subs count s) (set-there subs count s below) (𝓖 .kept) a n)
 
 -- ---- what is answered
+
+module _ {v : Verdict} (t : Types) (source target : List ℕ) (one other : Subscriber) where
+  pub sighted-refused : {r : Refusal} → v ≡ Refused r → sighted v t source target one other ≡ unseen r
+  sighted-refused e = ap (λ (w : Verdict). sighted w t source target one other) e
+
+  -- the verdict is the answer's
+  pub sighted-answer : sighted v t source target one other .answer ≡ v
+  unfolding unseen
+  sighted-answer = by v
+    where
+      by : (w : Verdict) → sighted w t source target one other .answer ≡ w
+      by Sound = refl
+      by (Refused r) = refl
+
+pub passed-answer : {v : Verdict} (t : Types) (source target : List ℕ) (one other : Subscriber) (first second : ℕ) (x : Reading)
+    → sighted v t source target one other ≡ scanned first second x → v ≡ x .answer
+unfolding scanned
+passed-answer t source target one other first second x e = sym (sighted-answer t source target one other) ∙ ap (λ (z : Sight). z .answer) e
 
 pub scanned-refused : (first second : ℕ) {r : Refusal} {x : Reading} → x ≡ refused r → scanned first second x ≡ unseen r
 unfolding scanned unseen seen blankPlan

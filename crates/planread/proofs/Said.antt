@@ -90,10 +90,10 @@ place-from (suc n) stage p at left =
       place-from n (min (stage + 1) 4) (entered (tagOf left) (bodyOf left) p) (at + (3 + lengthOf left)) (after left),
     )
 
--- what is read, with its number and its place
-pub said : (bytes : List ℕ) {r : Reading} → r ≡ readOf bytes → (r ≡ readOf bytes) × ((numberSaid (r .answer) ≡ numberRead bytes) × (placeSaid (r .answer) ≡ placeRead bytes))
+-- what is answered, with its number and its place; and what is read
+pub verdict-said : (bytes : List ℕ) {v : Verdict} → v ≡ readOf bytes .answer → (v ≡ readOf bytes .answer) × ((numberSaid v ≡ numberRead bytes) × (placeSaid v ≡ placeRead bytes))
 unfolding readOf numberRead placeRead
-said bytes e = (
-  e,
-  (ap (λ (x : Reading). numberSaid (x .answer)) e ∙ number-from 261 0 blankPlan 0 bytes, ap (λ (x : Reading). placeSaid (x .answer)) e ∙ place-from 261 0 blankPlan 0 bytes),
-)
+verdict-said bytes e = (e, (ap numberSaid e ∙ number-from 261 0 blankPlan 0 bytes, ap placeSaid e ∙ place-from 261 0 blankPlan 0 bytes))
+
+pub said : (bytes : List ℕ) {r : Reading} → r ≡ readOf bytes → (r ≡ readOf bytes) × ((numberSaid (r .answer) ≡ numberRead bytes) × (placeSaid (r .answer) ≡ placeRead bytes))
+said bytes e = (e, verdict-said bytes (ap (λ (x : Reading). x .answer) e) .1)

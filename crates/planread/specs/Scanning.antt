@@ -30,12 +30,16 @@ unseen r =
       seen = record { types = noTypes; «source_order» = replicate 32 0; «target_order» = replicate 32 0; first = noSubscriber; second = noSubscriber };
     }
 
+-- what looking through the subscribers answers, with the five sets and the orders beside it
+abbrev pub sighted : Verdict → Types → List ℕ → List ℕ → Subscriber → Subscriber → Sight
+sighted (Refused r) t source target one other = unseen r
+sighted Sound t source target one other =
+    record { answer = Sound; seen = record { types = t; «source_order» = source; «target_order» = target; first = one; second = other } }
+
 -- after the end field: what is shown, or bytes too many
 unfoldable pub shownEnd : Types → List ℕ → List ℕ → Subscriber → Subscriber → ℕ → List ℕ → Sight
 shownEnd t source target first second at left =
-    cond (eqb (length left) 0)
-    (record { answer = Sound; seen = record { types = t; «source_order» = source; «target_order» = target; first = first; second = second } })
-    (unseen (WrongEnd at))
+    cond (eqb (length left) 0) (sighted Sound t source target first second) (sighted (Refused (WrongEnd at)) t source target first second)
 
 -- reading on after the four fixed fields, by what they gave
 abbrev pub onward : Verdict → Types → List ℕ → List ℕ → List ℕ → Reading

@@ -1,8 +1,8 @@
 // Any bytes read as a plan file: the plan, or the refusal of the first field at which they stop being one.
 ghost use mathlib.Core.Path.{_≡_};
 ghost use mathlib.Core.Bool.{true, _&&_, cond};
-ghost use mathlib.Core.List.{_++_};
-ghost use Prim.Native.Nat.{_+_, _*_, _-_, _%_, _≤_, _<_};
+ghost use mathlib.Core.List.{List, _++_};
+ghost use Prim.Native.Nat.{ℕ, _+_, _*_, _-_, _%_, _≤_, _<_};
 ghost use lib.Dec.{leb, ltb, eqb};
 ghost use lib.ListN.{length, take, drop, replicate};
 ghost use Rattle.plan.specs.Rules.{boxesBlank};
@@ -12,7 +12,8 @@ ghost use Rattle.planbytes.specs.Numbers.{number, numbers};
 ghost use Rattle.planread.specs.Reading.{noTypes, planOf, blankPlan, typesIn, orderIn, subscriberWith, allowed, everLong, header, refused, ended, readFrom, readOf};
 ghost use Rattle.plan.specs.Parts.{noSubscriber};
 ghost use Rattle.planread.specs.Said.{numberRead, placeRead};
-ghost use Rattle.planread.specs.Scanning.{onward, scanned, unseen, shownEnd};
+ghost use Rattle.planread.specs.Scanning.{onward, scanned, unseen, shownEnd, sighted};
+ghost use Rattle.plan.specs.declared.Types.{Types};
 ghost use Rattle.plan.specs.declared.Verdict.the-variants.{Sound, Refused};
 use plan::Plan;
 use plan::Seen;
@@ -31,6 +32,13 @@ pub struct Reading {
 pub struct Sight {
     pub answer: Verdict,
     pub seen: Seen,
+}
+
+// What looking through the fields after the fixed ones answers: sound, with the subscribers of two addresses; or the refusal of one of them.
+struct Pass {
+    answer: Verdict,
+    one: Subscriber,
+    other: Subscriber,
 }
 
 // The four fixed fields: sound, with what they say, or the refusal of one of them.
@@ -335,20 +343,6 @@ fn read_subscribers(
     }
 }
 
-// Whether the rules are kept that are due at the field with this tag: at 2 those of the five sets, at 3 of the source order, at 4 of the target order. What later fields
-// say is not looked at.
-fn due(tag: u8, types: Types, source: [u32; 32], target: [u32; 32]) -> bool
-    ensures { λ r. ⌜ r ≡ cond (ltb tag 3) (typesSound types) (cond (ltb tag 4) (sourceSound types source) (targetSound types source target)) ⌝ }
-{
-    if tag < 3 {
-        return rules::types_sound(types);
-    }
-    if tag < 4 {
-        return rules::source_sound(types, source);
-    }
-    rules::target_sound(types, source, target)
-}
-
 fn no_types() -> Types
     ensures { λ r. ⌜ r ≡ noTypes ⌝ }
 {
@@ -384,7 +378,7 @@ fn fixed_target(bytes: &[u8], types: Types, source: [u32; 32]) -> Head
         Verdict::Refused(r) => not_fixed(r),
         Verdict::Sound => {
             let target = order_at(bytes, 161);
-            if !due(4, types, source, target) {
+            if !rules::target_sound(types, &source, &target) {
                 return not_fixed(Refusal::RuleBroken(158));
             }
             Head {
@@ -408,7 +402,7 @@ fn fixed_source(bytes: &[u8], types: Types) -> Head
         Verdict::Refused(r) => not_fixed(r),
         Verdict::Sound => {
             let source = order_at(bytes, 30);
-            if !due(3, types, source, [0u32; 32]) {
+            if !rules::source_sound(types, &source) {
                 return not_fixed(Refusal::RuleBroken(27));
             }
             fixed_target(bytes, types, source)
@@ -427,7 +421,7 @@ fn fixed_types(bytes: &[u8]) -> Head
         Verdict::Refused(r) => not_fixed(r),
         Verdict::Sound => {
             let types = types_at(bytes, 7);
-            if !due(2, types, [0u32; 32], [0u32; 32]) {
+            if !rules::types_sound(types) {
                 return not_fixed(Refusal::RuleBroken(4));
             }
             fixed_source(bytes, types)
@@ -491,46 +485,43 @@ fn unseen(r: Refusal) -> Sight
     }
 }
 
-// What comes after the end field, as in `finish`.
-fn scan_end(
-    bytes: &[u8],
-    at: usize,
-    types: Types,
-    source: [u32; 32],
-    target: [u32; 32],
-    first: Subscriber,
-    second: Subscriber,
-) -> Sight
-    ensures { λ r. ⌜ r ≡ shownEnd types source target first second at (drop at (now (bytes .entry))) ⌝ }
+// A refusal of a field after the fixed ones; what stands beside it does not count.
+fn stopped(r: Refusal) -> Pass
+    ensures { λ x. ⌜ x .answer ≡ Refused r ⌝ }
 {
-    if bytes.len() <= at {
-        let seen = Seen {
-            types,
-            source_order: source,
-            target_order: target,
-            first,
-            second,
-        };
-        return Sight {
-            answer: Verdict::Sound,
-            seen,
-        };
+    let nobody = plan::no_subscriber();
+    Pass {
+        answer: Verdict::Refused(r),
+        one: nobody,
+        other: nobody,
     }
-    unseen(Refusal::WrongEnd(at))
 }
 
-// The fields after the four fixed ones, as in `read_subscribers`; of the subscribers only those of the two addresses are kept.
-fn scan_subscribers(
+// What comes after the end field, as in `finish`.
+fn pass_end(bytes: &[u8], at: usize, one: Subscriber, other: Subscriber) -> Pass
+    ensures { λ r. ⌜ ((t : Types) (source target : List ℕ) → sighted (r .answer) t source target (r .one) (r .other) ≡ shownEnd t source target one other at (drop at (now (bytes .entry)))) ⌝ }
+{
+    if bytes.len() <= at {
+        return Pass {
+            answer: Verdict::Sound,
+            one,
+            other,
+        };
+    }
+    stopped(Refusal::WrongEnd(at))
+}
+
+// The fields after the four fixed ones, as in `read_subscribers`; of the subscribers only those of the two addresses are kept. The orders are not asked here: whoever calls has them.
+fn pass_subscribers(
     bytes: &[u8],
     types: Types,
-    source: [u32; 32],
-    target: [u32; 32],
     first: u32,
     second: u32,
     taken: &mut [u32; 4096],
-) -> Sight
+) -> Pass
     requires { ⌜ (289 ≤ length (now bytes)) × (now taken ≡ replicate 4096 0) ⌝ }
-    ensures { λ r. ⌜ r ≡ scanned first second (readFrom 257 4 (planOf types source target (replicate 256 noSubscriber) 0) 289 (drop 289 (now (bytes .entry)))) ⌝ }
+    ensures { λ r. ⌜ ((source target : List ℕ) → sighted (r .answer) types source target (r .one) (r .other)
+        ≡ scanned first second (readFrom 257 4 (planOf types source target (replicate 256 noSubscriber) 0) 289 (drop 289 (now (bytes .entry))))) ⌝ }
 {
     let mut one = plan::no_subscriber();
     let mut other = plan::no_subscriber();
@@ -540,16 +531,16 @@ fn scan_subscribers(
     loop {
         let verdict = header(bytes, 4, count, at);
         match verdict {
-            Verdict::Refused(r) => return unseen(r),
+            Verdict::Refused(r) => return stopped(r),
             Verdict::Sound => {}
         }
         if bytes[at] == 127 {
-            return scan_end(bytes, at + 3, types, source, target, one, other);
+            return pass_end(bytes, at + 3, one, other);
         }
         let n = two(bytes, at + 1) as usize;
         let s = subscriber_at(bytes, at + 3, (n - 13) / 2);
         if !keeps(types, s, last, taken) {
-            return unseen(Refusal::RuleBroken(at));
+            return stopped(Refusal::RuleBroken(at));
         }
         soundness::claim(taken, s);
         if s.address == first {
@@ -561,6 +552,35 @@ fn scan_subscribers(
         last = s.address;
         count += 1;
         at = at + (3 + n);
+    }
+}
+
+// What is answered, the orders with it.
+fn sighted(
+    answer: Verdict,
+    types: Types,
+    source: [u32; 32],
+    target: [u32; 32],
+    one: Subscriber,
+    other: Subscriber,
+) -> Sight
+    ensures { λ r. ⌜ r ≡ sighted answer types source target one other ⌝ }
+{
+    match answer {
+        Verdict::Refused(r) => unseen(r),
+        Verdict::Sound => {
+            let seen = Seen {
+                types,
+                source_order: source,
+                target_order: target,
+                first: one,
+                second: other,
+            };
+            Sight {
+                answer: Verdict::Sound,
+                seen,
+            }
+        }
     }
 }
 
@@ -577,7 +597,29 @@ pub fn scan(bytes: &[u8], first: u32, second: u32) -> Sight
         Verdict::Refused(r) => unseen(r),
         Verdict::Sound => {
             let mut taken = [0u32; 4096];
-            scan_subscribers(bytes, types, source, target, first, second, &mut taken)
+            let p = pass_subscribers(bytes, types, first, second, &mut taken);
+            let answer = p.answer;
+            let one = p.one;
+            let other = p.other;
+            sighted(answer, types, source, target, one, other)
+        }
+    }
+}
+
+// Whether any bytes are a plan file; or the refusal that reading them has. Nothing of the plan is kept.
+pub fn verdict(bytes: &[u8]) -> Verdict
+    ensures { λ r. ⌜ r ≡ readOf (now (bytes .entry)) .answer ⌝ }
+    ensures numbered { λ r. ⌜ (numberSaid r ≡ numberRead (now (bytes .entry))) × (placeSaid r ≡ placeRead (now (bytes .entry))) ⌝ }
+{
+    let f = fixed(bytes);
+    let answer = f.answer;
+    let types = f.types;
+    match answer {
+        Verdict::Refused(r) => Verdict::Refused(r),
+        Verdict::Sound => {
+            let mut taken = [0u32; 4096];
+            let p = pass_subscribers(bytes, types, 0, 0, &mut taken);
+            p.answer
         }
     }
 }

@@ -63,8 +63,8 @@ pub fn types_sound(t: Types) -> bool
 // ---- the orders
 
 // Whether the source order keeps its rules, with the five sets.
-pub fn source_sound(t: Types, source: [u32; 32]) -> bool
-    ensures { λ r. ⌜ r ≡ sourceSound t source ⌝ }
+pub fn source_sound(t: Types, source: &[u32; 32]) -> bool
+    ensures { λ r. ⌜ r ≡ sourceSound t (now (source .entry)) ⌝ }
 {
     if !order::order_sound(t.source_choice, source) {
         return false;
@@ -73,8 +73,8 @@ pub fn source_sound(t: Types, source: [u32; 32]) -> bool
 }
 
 // Whether the target order keeps its rules, with the five sets and the source order.
-pub fn target_sound(t: Types, source: [u32; 32], target: [u32; 32]) -> bool
-    ensures { λ r. ⌜ r ≡ targetSound t source target ⌝ }
+pub fn target_sound(t: Types, source: &[u32; 32], target: &[u32; 32]) -> bool
+    ensures { λ r. ⌜ r ≡ targetSound t (now (source .entry)) (now (target .entry)) ⌝ }
 {
     if !order::order_sound(t.target_choice, target) {
         return false;

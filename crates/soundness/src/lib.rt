@@ -229,10 +229,10 @@ pub fn sound(plan: Plan) -> bool
     if !rules::types_sound(types) {
         return false;
     }
-    if !rules::source_sound(types, source) {
+    if !rules::source_sound(types, &source) {
         return false;
     }
-    if !rules::target_sound(types, source, target) {
+    if !rules::target_sound(types, &source, &target) {
         return false;
     }
     if !subscribers_sound(types, subscribers, count) {

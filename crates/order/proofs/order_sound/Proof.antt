@@ -26,7 +26,7 @@ row-sound-requires c κs = search needs
 
 returns : tie.Need-returns Inv-loop μ-loop
 returns c =
-    sym (sym (order-rows _ _) ∙ every-no 32 _ _ (c .before .before .before .loop-test .taken) (sym (c .before .row-sound .ensures) ∙ not-true _ (c .if1 .taken)))
+    sym (sym (order-rows _ _) ∙ every-no 32 _ _ (c .before .before .loop-test .taken) (sym (c .before .row-sound .ensures) ∙ not-true _ (c .if1 .taken)))
 
 add-t : tie.Need-add-t Inv-loop μ-loop
 add-t c = search needs
@@ -35,7 +35,7 @@ loop-less : tie.Need-loop-less Inv-loop μ-loop
 loop-less c = search needs
 
 loop-again : tie.Need-loop-again Inv-loop μ-loop
-loop-again c = (search needs, every-more _ _ (c .before .before .before .before .loop .inv .1) (sym (c .before .row-sound .ensures) ∙ not-false _ (c .if1 .left)))
+loop-again c = (search needs, every-more _ _ (c .before .before .before .loop .inv .1) (sym (c .before .row-sound .ensures) ∙ not-false _ (c .if1 .left)))
 
 returns-2 : tie.Need-returns-2 Inv-loop μ-loop
 returns-2 c =

@@ -23,22 +23,22 @@ lowest-requires : tie.Need-lowest-requires Inv-loop μ-loop
 lowest-requires c κs = search needs
 
 ordered-at-requires : tie.Need-ordered-at-requires Inv-loop μ-loop
-ordered-at-requires c κs = taken-below (c .before .before .before .loop .inv .0) (c .before .before .loop-test .taken) (c .before .lowest .ensures)
+ordered-at-requires c κs = taken-below (c .before .before .loop .inv .0) (c .before .loop-test .taken) (c .lowest .ensures)
 
 returns : tie.Need-returns Inv-loop μ-loop
 unfolding reversibleOrdered orderedAt pairOrdered
 returns c =
-    sym (asks-fails _ (c .before .before .before .before .before .loop .inv) (c .before .before .before .before .loop-test .taken) (c .before .before .before .lowest .ensures) (failed (c .before .ordered-at .ensures) (c .if1 .taken)))
+    sym (asks-fails _ (c .before .before .before .before .loop .inv) (c .before .before .before .loop-test .taken) (c .before .before .lowest .ensures) (failed (c .before .ordered-at .ensures) (c .if1 .taken)))
 
 without-requires : tie.Need-without-requires Inv-loop μ-loop
 without-requires c κs = search needs
 
 loop-less : tie.Need-loop-less Inv-loop μ-loop
-loop-less c = taken-less (c .before .before .before .before .before .before .loop .inv .0) (c .before .before .before .before .before .loop-test .taken) (c .before .before .before .before .lowest .ensures) (c .without .ensures)
+loop-less c = taken-less (c .before .before .before .before .before .loop .inv .0) (c .before .before .before .before .loop-test .taken) (c .before .before .before .lowest .ensures) (c .without .ensures)
 
 loop-again : tie.Need-loop-again Inv-loop μ-loop
 loop-again c =
-    asks-rest _ (c .before .before .before .before .before .before .loop .inv) (c .before .before .before .before .before .loop-test .taken) (c .before .before .before .before .lowest .ensures) (passed (c .before .before .ordered-at .ensures) (c .before .if1 .left)) (c .without .ensures)
+    asks-rest _ (c .before .before .before .before .before .loop .inv) (c .before .before .before .before .loop-test .taken) (c .before .before .before .lowest .ensures) (passed (c .before .before .ordered-at .ensures) (c .before .if1 .left)) (c .without .ensures)
 
 returns-2 : tie.Need-returns-2 Inv-loop μ-loop
 unfolding reversibleOrdered orderedAt pairOrdered

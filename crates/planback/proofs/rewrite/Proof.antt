@@ -5,8 +5,6 @@ use Prim.Native.Nat.{_≤_}
 use lib.ListN.{length}
 use lib.Seq.{take-length}
 use Rattle.planwrite.specs.declared.Written.the-variants.{Bytes}
-use Rattle.planread.specs.declared.Sight.{Sight}
-use Rattle.planread.specs.Scanning.{scanned}
 use borrow.Author.Needs.{needs}
 use Rattle.planback.proofs.Again.{again-refused, again-short, again-fits}
 use Rattle.planback.proofs.rewrite.Statement.{statement}
@@ -15,38 +13,35 @@ use Rattle.planback.proofs.rewrite.Tie as tie
 all-bytes-requires : tie.Need-all-bytes-requires
 all-bytes-requires c κs = search needs
 
-scan-requires : tie.Need-scan-requires
-scan-requires c κs = search needs
+verdict-requires : tie.Need-verdict-requires
+verdict-requires c κs = search needs
 
-enum-known-verdict : tie.Need-enum-known-verdict
-enum-known-verdict c = search needs
+enum-known-answer : tie.Need-enum-known-answer
+enum-known-answer c = search needs
 
 enum-told : tie.Need-enum-told
 enum-told c = search needs
 
 returns : tie.Need-returns
-unfolding scanned
 returns c =
-    let is = again-short (c .before .before .before .before .before .before .before .args .file .now) (c .before .before .before .before .before .before .before .args .room .now) (ap (λ (z : Sight). z .answer) (c .before .before .before .scan .ensures)) (c .before .before .before .before .all-bytes .ensures) (c .before .enum-told .given .1) (c .if1 .taken) in
+    let is = again-short (c .before .before .before .before .before .before .before .args .file .now) (c .before .before .before .before .before .before .before .args .room .now) (c .before .before .before .verdict .ensures .0) (c .before .before .before .before .all-bytes .ensures) (c .before .enum-told .given .1) (c .if1 .taken) in
     (sym (is .0), sym (is .1))
 
 copy-requires : tie.Need-copy-requires
 copy-requires c κs = search needs
 
 returns-2 : tie.Need-returns-2
-unfolding scanned
 returns-2 c =
-    let is = again-refused (c .before .before .before .before .before .before .before .args .file .now) (c .before .before .before .before .before .before .before .args .room .now) (ap (λ (z : Sight). z .answer) (c .before .before .before .scan .ensures)) (c .before .verdict .given .1) in
+    let is = again-refused (c .before .before .before .before .before .before .before .args .file .now) (c .before .before .before .before .before .before .before .args .room .now) (c .before .before .before .verdict .ensures .0) (c .before .answer .given .1) in
     (sym (is .0), sym (is .1))
 
 same-length : tie.Need-same-length
 same-length c = search needs
 
 returns-3 : tie.Need-returns-3
-unfolding scanned
 returns-3 c =
     let fits : length (c .before .before .before .before .before .before .before .before .before .before .before .args .file .now) ≤ length (c .before .before .before .before .before .before .before .before .before .before .before .args .room .now) = omega (arith, c .before .before .before .before .if1 .left) in
-    let is = again-fits (c .before .before .before .before .before .before .before .before .before .before .before .args .file .now) (c .before .before .before .before .before .before .before .before .before .before .before .args .room .now) (ap (λ (z : Sight). z .answer) (c .before .before .before .before .before .before .before .scan .ensures)) (c .before .before .before .before .before .before .before .before .all-bytes .ensures) (c .before .before .before .before .before .enum-told .given .1) fits in
+    let is = again-fits (c .before .before .before .before .before .before .before .before .before .before .before .args .file .now) (c .before .before .before .before .before .before .before .before .before .before .before .args .room .now) (c .before .before .before .before .before .before .before .verdict .ensures .0) (c .before .before .before .before .before .before .before .before .all-bytes .ensures) (c .before .before .before .before .before .enum-told .given .1) fits in
     (ap Bytes (c .before .before .copy .ensures .0) ∙ sym (is .0), c .before .before .copy .ensures .1 ∙ rw (take-length (c .before .before .before .before .before .before .before .before .before .before .before .args .file .now)) (sym (is .1)))
 
 pub rewrite-spec : {M : Type 1} → statement M
@@ -54,8 +49,8 @@ rewrite-spec =
     tie.close
     (tie.spec
     all-bytes-requires
-    scan-requires
-    enum-known-verdict
+    verdict-requires
+    enum-known-answer
     enum-told
     returns
     copy-requires

@@ -27,23 +27,23 @@ enum-told c = search needs
 order-at-requires : tie.Need-order-at-requires
 order-at-requires c κs = omega (arith, source-room (c .before .before .before .before .args .bytes .now) (sym (c .before .before .header .ensures) ∙ c .enum-told .given .1))
 
-due-requires : tie.Need-due-requires
-due-requires c κs = search needs
+source-sound-requires : tie.Need-source-sound-requires
+source-sound-requires c κs = search needs
 
 not-fixed-requires-2 : tie.Need-not-fixed-requires-2
 not-fixed-requires-2 c κs = search needs
 
 returns : tie.Need-returns
-returns c = not-on _ _ _ _ (c .not-fixed2 .ensures) (source-broken (c .before .before .before .before .before .before .before .before .args .bytes .now) (sym (c .before .before .before .before .before .before .header .ensures) ∙ c .before .before .before .before .enum-told .given .1) (c .before .before .before .before .before .before .before .before .args .types) (replicate 32 0) (replicate 256 noSubscriber) (c .before .before .before .order-at .ensures) _ (failed (c .before .before .due .ensures) (c .before .if1 .taken)))
+returns c = not-on _ _ _ _ (c .not-fixed2 .ensures) (source-broken (c .before .before .before .before .before .before .before .before .before .args .bytes .now) (sym (c .before .before .before .before .before .before .before .header .ensures) ∙ c .before .before .before .before .before .enum-told .given .1) (c .before .before .before .before .before .before .before .before .before .args .types) (replicate 32 0) (replicate 256 noSubscriber) (c .before .before .before .before .order-at .ensures) _ (failed (c .before .before .source-sound .ensures) (c .before .if1 .taken)))
 
 fixed-target-requires : tie.Need-fixed-target-requires
-fixed-target-requires c κs = source-room (c .before .before .before .before .before .before .before .args .bytes .now) (sym (c .before .before .before .before .before .header .ensures) ∙ c .before .before .before .enum-told .given .1)
+fixed-target-requires c κs = source-room (c .before .before .before .before .before .before .before .before .args .bytes .now) (sym (c .before .before .before .before .before .before .header .ensures) ∙ c .before .before .before .before .enum-told .given .1)
 
 returns-2 : tie.Need-returns-2
 returns-2 c = not-on _ _ _ _ (c .not-fixed .ensures) (read-refused 258 2 (planOf (c .before .before .before .before .before .before .args .types) (replicate 32 0) (replicate 32 0) (replicate 256 noSubscriber) 0) 27 (drop 27 (c .before .before .before .before .before .before .args .bytes .now)) (sym (c .before .before .before .before .header .ensures) ∙ c .before .before .verdict .given .1))
 
 returns-3 : tie.Need-returns-3
-returns-3 c = (c .fixed-target .ensures .0 ∙ sym (source-on (c .before .before .before .before .before .before .before .before .args .bytes .now) (sym (c .before .before .before .before .before .before .header .ensures) ∙ c .before .before .before .before .enum-told .given .1) (c .before .before .before .before .before .before .before .before .args .types) (replicate 32 0) (replicate 256 noSubscriber) (c .before .before .before .order-at .ensures) _ (passed (c .before .before .due .ensures) (c .before .if1 .left))), c .fixed-target .ensures .1)
+returns-3 c = (c .fixed-target .ensures .0 ∙ sym (source-on (c .before .before .before .before .before .before .before .before .before .args .bytes .now) (sym (c .before .before .before .before .before .before .before .header .ensures) ∙ c .before .before .before .before .before .enum-told .given .1) (c .before .before .before .before .before .before .before .before .before .args .types) (replicate 32 0) (replicate 256 noSubscriber) (c .before .before .before .before .order-at .ensures) _ (passed (c .before .before .source-sound .ensures) (c .before .if1 .left))), c .fixed-target .ensures .1)
 
 pub fixed-source-spec : {M : Type 1} → statement M
 fixed-source-spec =
@@ -54,7 +54,7 @@ fixed-source-spec =
     not-fixed-requires
     enum-told
     order-at-requires
-    due-requires
+    source-sound-requires
     not-fixed-requires-2
     returns
     fixed-target-requires

@@ -27,20 +27,20 @@ enum-told c = search needs
 order-at-requires : tie.Need-order-at-requires
 order-at-requires c κs = omega (arith, target-room (c .before .before .before .before .args .bytes .now) (sym (c .before .before .header .ensures) ∙ c .enum-told .given .1))
 
-due-requires : tie.Need-due-requires
-due-requires c κs = search needs
+target-sound-requires : tie.Need-target-sound-requires
+target-sound-requires c κs = search needs
 
 not-fixed-requires-2 : tie.Need-not-fixed-requires-2
 not-fixed-requires-2 c κs = search needs
 
 returns : tie.Need-returns
-returns c = not-on _ _ _ _ (c .not-fixed2 .ensures) (target-broken (c .before .before .before .before .before .before .before .before .args .bytes .now) (sym (c .before .before .before .before .before .before .header .ensures) ∙ c .before .before .before .before .enum-told .given .1) (c .before .before .before .before .before .before .before .before .args .types) (c .before .before .before .before .before .before .before .before .args .source) (replicate 256 noSubscriber) (c .before .before .before .order-at .ensures) _ (failed (c .before .before .due .ensures) (c .before .if1 .taken)))
+returns c = not-on _ _ _ _ (c .not-fixed2 .ensures) (target-broken (c .before .before .before .before .before .before .before .before .before .before .args .bytes .now) (sym (c .before .before .before .before .before .before .before .before .header .ensures) ∙ c .before .before .before .before .before .before .enum-told .given .1) (c .before .before .before .before .before .before .before .before .before .before .args .types) (c .before .before .before .before .before .before .before .before .before .before .args .t3) (replicate 256 noSubscriber) (c .before .before .before .before .before .order-at .ensures) _ (failed (c .before .before .target-sound .ensures) (c .before .if1 .taken)))
 
 returns-2 : tie.Need-returns-2
-returns-2 c = not-on _ _ _ _ (c .not-fixed .ensures) (read-refused 257 3 (planOf (c .before .before .before .before .before .before .args .types) (c .before .before .before .before .before .before .args .source) (replicate 32 0) (replicate 256 noSubscriber) 0) 158 (drop 158 (c .before .before .before .before .before .before .args .bytes .now)) (sym (c .before .before .before .before .header .ensures) ∙ c .before .before .verdict .given .1))
+returns-2 c = not-on _ _ _ _ (c .not-fixed .ensures) (read-refused 257 3 (planOf (c .before .before .before .before .before .before .args .types) (c .before .before .before .before .before .before .args .t3) (replicate 32 0) (replicate 256 noSubscriber) 0) 158 (drop 158 (c .before .before .before .before .before .before .args .bytes .now)) (sym (c .before .before .before .before .header .ensures) ∙ c .before .before .verdict .given .1))
 
 returns-3 : tie.Need-returns-3
-returns-3 c = (sym (target-on (c .before .before .before .before .before .before .before .args .bytes .now) (sym (c .before .before .before .before .before .header .ensures) ∙ c .before .before .before .enum-told .given .1) (c .before .before .before .before .before .before .before .args .types) (c .before .before .before .before .before .before .before .args .source) (replicate 256 noSubscriber) (c .before .before .order-at .ensures) _ (passed (c .before .due .ensures) (c .if1 .left))), λ sound. target-room (c .before .before .before .before .before .before .before .args .bytes .now) (sym (c .before .before .before .before .before .header .ensures) ∙ c .before .before .before .enum-told .given .1))
+returns-3 c = (sym (target-on (c .before .before .before .before .before .before .before .before .before .args .bytes .now) (sym (c .before .before .before .before .before .before .before .header .ensures) ∙ c .before .before .before .before .before .enum-told .given .1) (c .before .before .before .before .before .before .before .before .before .args .types) (c .before .before .before .before .before .before .before .before .before .args .t3) (replicate 256 noSubscriber) (c .before .before .before .before .order-at .ensures) _ (passed (c .before .target-sound .ensures) (c .if1 .left))), λ sound. target-room (c .before .before .before .before .before .before .before .before .before .args .bytes .now) (sym (c .before .before .before .before .before .before .before .header .ensures) ∙ c .before .before .before .before .before .enum-told .given .1))
 
 pub fixed-target-spec : {M : Type 1} → statement M
 fixed-target-spec =
@@ -51,7 +51,7 @@ fixed-target-spec =
     not-fixed-requires
     enum-told
     order-at-requires
-    due-requires
+    target-sound-requires
     not-fixed-requires-2
     returns
     returns-2

@@ -24,14 +24,14 @@ enum-told c = search needs
 types-at-requires : tie.Need-types-at-requires
 types-at-requires c κs = omega (arith, types-room (c .before .before .before .before .args .bytes .now) (sym (c .before .before .header .ensures) ∙ c .enum-told .given .1))
 
-due-requires : tie.Need-due-requires
-due-requires c κs = search needs
+types-sound-requires : tie.Need-types-sound-requires
+types-sound-requires c κs = search needs
 
 not-fixed-requires-2 : tie.Need-not-fixed-requires-2
 not-fixed-requires-2 c κs = search needs
 
 returns : tie.Need-returns
-returns c = not-on _ _ _ _ (c .not-fixed2 .ensures) (types-broken (c .before .before .before .before .before .before .before .before .args .bytes .now) (sym (c .before .before .before .before .before .before .header .ensures) ∙ c .before .before .before .before .enum-told .given .1) (c .before .before .before .types-at .ensures) (failed (c .before .before .due .ensures) (c .before .if1 .taken)))
+returns c = not-on _ _ _ _ (c .not-fixed2 .ensures) (types-broken (c .before .before .before .before .before .before .before .before .args .bytes .now) (sym (c .before .before .before .before .before .before .header .ensures) ∙ c .before .before .before .before .enum-told .given .1) (c .before .before .before .types-at .ensures) (failed (c .before .before .types-sound .ensures) (c .before .if1 .taken)))
 
 fixed-source-requires : tie.Need-fixed-source-requires
 fixed-source-requires c κs = types-room (c .before .before .before .before .before .before .before .args .bytes .now) (sym (c .before .before .before .before .before .header .ensures) ∙ c .before .before .before .enum-told .given .1)
@@ -40,7 +40,7 @@ returns-2 : tie.Need-returns-2
 returns-2 c = not-on _ _ _ _ (c .not-fixed .ensures) (types-refused (c .before .before .before .before .before .before .args .bytes .now) (sym (c .before .before .before .before .header .ensures) ∙ c .before .before .verdict .given .1))
 
 returns-3 : tie.Need-returns-3
-returns-3 c = (c .fixed-source .ensures .0 ∙ sym (types-on (c .before .before .before .before .before .before .before .before .args .bytes .now) (sym (c .before .before .before .before .before .before .header .ensures) ∙ c .before .before .before .before .enum-told .given .1) (c .before .before .before .types-at .ensures) (passed (c .before .before .due .ensures) (c .before .if1 .left))), c .fixed-source .ensures .1)
+returns-3 c = (c .fixed-source .ensures .0 ∙ sym (types-on (c .before .before .before .before .before .before .before .before .args .bytes .now) (sym (c .before .before .before .before .before .before .header .ensures) ∙ c .before .before .before .before .enum-told .given .1) (c .before .before .before .types-at .ensures) (passed (c .before .before .types-sound .ensures) (c .before .if1 .left))), c .fixed-source .ensures .1)
 
 pub fixed-types-spec : {M : Type 1} → statement M
 fixed-types-spec =
@@ -51,7 +51,7 @@ fixed-types-spec =
     not-fixed-requires
     enum-told
     types-at-requires
-    due-requires
+    types-sound-requires
     not-fixed-requires-2
     returns
     fixed-source-requires

@@ -19,14 +19,17 @@ unseen-requires c κs = search needs
 enum-told : tie.Need-enum-told
 enum-told c = search needs
 
-scan-subscribers-requires : tie.Need-scan-subscribers-requires
-scan-subscribers-requires c κs = (c .before .before .before .before .before .before .fixed .ensures .1 (c .before .enum-told .given .1), search needs)
+pass-subscribers-requires : tie.Need-pass-subscribers-requires
+pass-subscribers-requires c κs = (c .before .before .before .before .before .before .fixed .ensures .1 (c .before .enum-told .given .1), search needs)
+
+sighted-requires : tie.Need-sighted-requires
+sighted-requires c κs = search needs
 
 returns : tie.Need-returns
 returns c = c .unseen .ensures ∙ sym (scanned-refused (c .before .before .before .before .before .before .before .before .before .args .first) (c .before .before .before .before .before .before .before .before .before .args .second) (sym (on-refused _ _ _ _ (c .before .before .before .before .before .before .before .fixed .ensures .0) (c .before .before .verdict .given .1))))
 
 returns-2 : tie.Need-returns-2
-returns-2 c = c .scan-subscribers .ensures ∙ ap (scanned (c .before .before .before .before .before .before .before .before .before .args .first) (c .before .before .before .before .before .before .before .before .before .args .second)) (on-sound _ _ _ _ (c .before .before .before .before .before .before .before .fixed .ensures .0) (c .before .before .enum-told .given .1))
+returns-2 c = c .sighted .ensures ∙ c .before .before .before .pass-subscribers .ensures _ _ ∙ ap (scanned (c .before .before .before .before .before .before .before .before .before .before .before .before .args .first) (c .before .before .before .before .before .before .before .before .before .before .before .before .args .second)) (on-sound _ _ _ _ (c .before .before .before .before .before .before .before .before .before .before .fixed .ensures .0) (c .before .before .before .before .before .enum-told .given .1))
 
 pub scan-spec : {M : Type 1} → statement M
 scan-spec =
@@ -36,6 +39,7 @@ scan-spec =
     enum-known-verdict
     unseen-requires
     enum-told
-    scan-subscribers-requires
+    pass-subscribers-requires
+    sighted-requires
     returns
     returns-2)

@@ -31,8 +31,8 @@ returns-3 : tie.Need-returns-3
 unfolding sound
 returns-3 c =
     rw (
-      le-leb _ 256 (c .before .before .before .before .if1 .left),
-      passed (c .before .before .before .types-sound .ensures) (c .before .before .if2 .left),
+      le-leb _ 256 (c .before .before .before .before .before .if1 .left),
+      passed (c .before .before .before .before .types-sound .ensures) (c .before .before .before .if2 .left),
       failed (c .before .source-sound .ensures) (c .if3 .taken),
     )
 
@@ -43,9 +43,9 @@ returns-4 : tie.Need-returns-4
 unfolding sound
 returns-4 c =
     rw (
-      le-leb _ 256 (c .before .before .before .before .before .before .if1 .left),
-      passed (c .before .before .before .before .before .types-sound .ensures) (c .before .before .before .before .if2 .left),
-      passed (c .before .before .before .source-sound .ensures) (c .before .before .if3 .left),
+      le-leb _ 256 (c .before .before .before .before .before .before .before .before .before .if1 .left),
+      passed (c .before .before .before .before .before .before .before .before .types-sound .ensures) (c .before .before .before .before .before .before .before .if2 .left),
+      passed (c .before .before .before .before .before .source-sound .ensures) (c .before .before .before .before .if3 .left),
       failed (c .before .target-sound .ensures) (c .if4 .taken),
     )
 
@@ -56,9 +56,9 @@ returns-5 : tie.Need-returns-5
 unfolding sound
 returns-5 c =
     rw (
-      le-leb _ 256 (c .before .before .before .before .before .before .before .before .if1 .left),
-      passed (c .before .before .before .before .before .before .before .types-sound .ensures) (c .before .before .before .before .before .before .if2 .left),
-      passed (c .before .before .before .before .before .source-sound .ensures) (c .before .before .before .before .if3 .left),
+      le-leb _ 256 (c .before .before .before .before .before .before .before .before .before .before .before .if1 .left),
+      passed (c .before .before .before .before .before .before .before .before .before .before .types-sound .ensures) (c .before .before .before .before .before .before .before .before .before .if2 .left),
+      passed (c .before .before .before .before .before .before .before .source-sound .ensures) (c .before .before .before .before .before .before .if3 .left),
       passed (c .before .before .before .target-sound .ensures) (c .before .before .if4 .left),
       failed (c .before .subscribers-sound .ensures) (c .if5 .taken),
     )
@@ -70,9 +70,9 @@ returns-6 : tie.Need-returns-6
 unfolding sound
 returns-6 c =
     rw (
-      le-leb _ 256 (c .before .before .before .before .before .before .before .before .before .if1 .left),
-      passed (c .before .before .before .before .before .before .before .before .types-sound .ensures) (c .before .before .before .before .before .before .before .if2 .left),
-      passed (c .before .before .before .before .before .before .source-sound .ensures) (c .before .before .before .before .before .if3 .left),
+      le-leb _ 256 (c .before .before .before .before .before .before .before .before .before .before .before .before .if1 .left),
+      passed (c .before .before .before .before .before .before .before .before .before .before .before .types-sound .ensures) (c .before .before .before .before .before .before .before .before .before .before .if2 .left),
+      passed (c .before .before .before .before .before .before .before .before .source-sound .ensures) (c .before .before .before .before .before .before .before .if3 .left),
       passed (c .before .before .before .before .target-sound .ensures) (c .before .before .before .if4 .left),
       passed (c .before .before .subscribers-sound .ensures) (c .before .if5 .left),
     ) (c .rest-blank .ensures)
