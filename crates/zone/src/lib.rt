@@ -21,9 +21,9 @@ pub struct Answer {
     pub zone: Zone,
 }
 
-// The types that some type of the set precedes.
-fn preceded(rows: [u32; 32], set: u32) -> u32
-    ensures { λ r. ⌜ r ≡ preceded rows set ⌝ }
+// The types that some type of the set precedes. The rows are lent here and below: a copy of them for each type placed would cost more than what is read of them.
+fn preceded(rows: &[u32; 32], set: u32) -> u32
+    ensures { λ r. ⌜ r ≡ preceded (now (rows .entry)) set ⌝ }
 {
     let mut found = 0u32;
     let mut rest = set;
@@ -36,15 +36,15 @@ fn preceded(rows: [u32; 32], set: u32) -> u32
 }
 
 // The types of the set that no type of the set precedes.
-fn unpreceded(rows: [u32; 32], set: u32) -> u32
-    ensures { λ r. ⌜ r ≡ unpreceded rows set ⌝ }
+fn unpreceded(rows: &[u32; 32], set: u32) -> u32
+    ensures { λ r. ⌜ r ≡ unpreceded (now (rows .entry)) set ⌝ }
 {
     typeset::minus(set, preceded(rows, set))
 }
 
 // The lowest of those; in an order with a cycle there may be none, and then the lowest of the set.
-fn next(rows: [u32; 32], set: u32) -> u32
-    ensures { λ r. ⌜ r ≡ next rows set ⌝ }
+fn next(rows: &[u32; 32], set: u32) -> u32
+    ensures { λ r. ⌜ r ≡ next (now (rows .entry)) set ⌝ }
 {
     let free = unpreceded(rows, set);
     if free == 0 {
@@ -62,7 +62,7 @@ pub fn zone_of(rows: [u32; 32], set: u32) -> Zone
     let mut left = set;
     let mut n: usize = 0;
     while left != 0 {
-        let t = next(rows, left);
+        let t = next(&rows, left);
         types[n] = t as u8;
         left = typeset::without(left, t);
         n += 1;

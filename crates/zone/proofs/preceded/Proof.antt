@@ -10,10 +10,10 @@ use Rattle.zone.proofs.preceded.Statement.{statement}
 use Rattle.zone.proofs.preceded.Tie as tie
 
 abbrev Inv-loop : tie.InvT-loop
-Inv-loop set rows found₀ rest₀ found rest = (rest < 2 ^ 32) × (found < 2 ^ 32) × Found rows set found rest
+Inv-loop rows set found₀ rest₀ found rest = (rest < 2 ^ 32) × (found < 2 ^ 32) × Found rows set found rest
 
 abbrev μ-loop : tie.MeasureT-loop
-μ-loop set rows found₀ rest₀ found rest = size rest
+μ-loop rows set found₀ rest₀ found rest = size rest
 
 loop-holds : tie.Need-loop-holds Inv-loop μ-loop
 loop-holds c = (omega arith, omega arith, found-none _ _)
@@ -27,8 +27,8 @@ cast-join c = search needs
 mul-join : tie.Need-mul-join Inv-loop μ-loop
 mul-join c = search needs
 
-array-read-join : tie.Need-array-read-join Inv-loop μ-loop
-array-read-join c = taken-below (c .before .before .loop .inv .0) (c .before .loop-test .taken) (c .lowest .ensures)
+element-copy-out-join : tie.Need-element-copy-out-join Inv-loop μ-loop
+element-copy-out-join c = taken-below (c .before .before .loop .inv .0) (c .before .loop-test .taken) (c .lowest .ensures)
 
 join-requires : tie.Need-join-requires Inv-loop μ-loop
 join-requires c κs = search needs
@@ -37,13 +37,13 @@ without-requires : tie.Need-without-requires Inv-loop μ-loop
 without-requires c κs = search needs
 
 loop-less : tie.Need-loop-less Inv-loop μ-loop
-loop-less c = taken-less (c .before .before .before .before .loop .inv .0) (c .before .before .before .loop-test .taken) (c .before .before .lowest .ensures) (c .without .ensures)
+loop-less c = taken-less (c .before .before .before .before .before .loop .inv .0) (c .before .before .before .before .loop-test .taken) (c .before .before .before .lowest .ensures) (c .without .ensures)
 
 loop-again : tie.Need-loop-again Inv-loop μ-loop
 loop-again c =
-    let i = c .before .before .before .before .loop .inv in
-    let some = c .before .before .before .loop-test .taken in
-    let low = c .before .before .lowest .ensures in
+    let i = c .before .before .before .before .before .loop .inv in
+    let some = c .before .before .before .before .loop-test .taken in
+    let low = c .before .before .before .lowest .ensures in
     rw (c .without .ensures, c .before .join .ensures)
     (without-lt _ _, join-lt _ _, found-row _ _ _ _ _ (i .2) (taken-below (i .0) some low) (taken-has (i .0) some low))
 
@@ -62,7 +62,7 @@ preceded-spec =
     lowest-requires
     cast-join
     mul-join
-    array-read-join
+    element-copy-out-join
     join-requires
     without-requires
     loop-less

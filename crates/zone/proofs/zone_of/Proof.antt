@@ -16,12 +16,12 @@ use Rattle.zone.proofs.zone_of.Statement.{statement}
 use Rattle.zone.proofs.zone_of.Tie as tie
 
 abbrev Inv-loop : tie.InvT-loop
-Inv-loop rows set types₀ left₀ n₀ types left n =
+Inv-loop set rows types₀ left₀ n₀ types left n =
     (left < 2 ^ 32) × (n + size left ≡ size set)
     × (sets types n (zoneList rows left) ≡ sets (replicate 32 0) 0 (zoneList rows set))
 
 abbrev μ-loop : tie.MeasureT-loop
-μ-loop rows set types₀ left₀ n₀ types left n = size left
+μ-loop set rows types₀ left₀ n₀ types left n = size left
 
 loop-holds : tie.Need-loop-holds Inv-loop μ-loop
 loop-holds c = (omega arith, omega arith, refl)
@@ -30,41 +30,41 @@ next-requires : tie.Need-next-requires Inv-loop μ-loop
 next-requires c κs = search needs
 
 cast-types : tie.Need-cast-types Inv-loop μ-loop
-cast-types c = omega (arith, next-lt (c .before .before .before .args .rows) (c .before .before .loop .inv .0) (c .before .loop-test .taken))
+cast-types c = omega (arith, next-lt (c .before .before .before .before .args .t1) (c .before .before .before .loop .inv .0) (c .before .before .loop-test .taken))
 
 array-write-types : tie.Need-array-write-types Inv-loop μ-loop
 array-write-types c =
-    omega (arith, size-le (c .before .before .before .args .set), size-step (c .before .before .before .args .rows) (c .before .before .loop .inv .0) (c .before .loop-test .taken))
+    omega (arith, size-le (c .before .before .before .before .args .set), size-step (c .before .before .before .before .args .t1) (c .before .before .before .loop .inv .0) (c .before .before .loop-test .taken))
 
 without-requires : tie.Need-without-requires Inv-loop μ-loop
 without-requires c κs = search needs
 
 add-n : tie.Need-add-n Inv-loop μ-loop
-add-n c = omega (arith, size-le (c .before .before .before .before .args .set))
+add-n c = omega (arith, size-le (c .before .before .before .before .before .args .set))
 
 loop-less : tie.Need-loop-less Inv-loop μ-loop
 loop-less c =
     rw (c .without .ensures, c .before .next .ensures)
-    (omega (arith, size-step (c .before .before .before .before .args .rows) (c .before .before .before .loop .inv .0) (c .before .before .loop-test .taken)))
+    (omega (arith, size-step (c .before .before .before .before .before .args .t1) (c .before .before .before .before .loop .inv .0) (c .before .before .before .loop-test .taken)))
 
 loop-again : tie.Need-loop-again Inv-loop μ-loop
 loop-again c =
-    let i = c .before .before .before .loop .inv in
-    let some = c .before .before .loop-test .taken in
+    let i = c .before .before .before .before .loop .inv in
+    let some = c .before .before .before .loop-test .taken in
     rw (c .without .ensures, c .before .next .ensures)
-    (without-lt _ _, omega (arith, size-step (c .before .before .before .before .args .rows) (i .0) some), sym (store-step _ _ _ (i .0) some) ∙ i .2)
+    (without-lt _ _, omega (arith, size-step (c .before .before .before .before .before .args .t1) (i .0) some), sym (store-step _ _ _ (i .0) some) ∙ i .2)
 
 size-requires : tie.Need-size-requires Inv-loop μ-loop
 size-requires c κs = search needs
 
-cast-t13 : tie.Need-cast-t13 Inv-loop μ-loop
-cast-t13 c = omega (arith, size-le (c .before .before .before .args .set))
+cast-t15 : tie.Need-cast-t15 Inv-loop μ-loop
+cast-t15 c = omega (arith, size-le (c .before .before .before .args .set))
 
 returns : tie.Need-returns Inv-loop μ-loop
 unfolding held
 returns c =
     let done = rw (c .before .loop-test .left, zone-empty) at (c .before .before .loop .inv .2) in
-    let rows = c .before .before .before .args .rows in
+    let rows = c .before .before .before .args .t1 in
     let set = c .before .before .before .args .set in
     λ i. record {
       types = (done ∙ held-stored (zoneList rows set) (zone-fits rows set)) i;
@@ -86,5 +86,5 @@ zone-of-spec =
     loop-less
     loop-again
     size-requires
-    cast-t13
+    cast-t15
     returns)
