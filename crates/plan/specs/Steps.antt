@@ -19,10 +19,6 @@ unfoldable pub boxSound : Subscriber → ℕ → Bool
 boxSound s x =
     implies (ltb x (s .count)) (boxNumber (box s x)) && differsAt s x && implies (leb (s .count) x) (eqb (box s x) 0)
 
--- L13 and L16 alone
-unfoldable pub numberAt : Subscriber → ℕ → Bool
-numberAt s x = implies (ltb x (s .count)) (boxNumber (box s x)) && differsAt s x
-
 -- ---- L19: the address at place i and the one before it
 unfoldable pub above : ℕ → ℕ → ℕ → Bool
 above i before address = implies (ltb 0 i) (ltb before address)

@@ -17,6 +17,7 @@ use Rattle.rules.proofs.target_sound.Reads as target-sound
 use Rattle.rules.proofs.target_sound.Kinds as target-sound-kinds
 use Rattle.rules.proofs.own_sound.Reads as own-sound
 use Rattle.rules.proofs.listed_sound.Reads as listed-sound
+use Rattle.rules.proofs.both.Reads as both
 
 pub types-sound-exact : (t : Types) (r s : Bool)
     → types-sound.Post tt (t, tt) r (t, tt) → types-sound.Post tt (t, tt) s (t, tt) → r ≡ s
@@ -37,3 +38,6 @@ own-sound-exact t subscriber r s p q = p ∙ sym q
 pub listed-sound-exact : (t : Types) (subscriber : Subscriber) (r s : Bool)
     → listed-sound.Post tt (t, (subscriber, tt)) r (t, (subscriber, tt)) → listed-sound.Post tt (t, (subscriber, tt)) s (t, (subscriber, tt)) → r ≡ s
 listed-sound-exact t subscriber r s p q = p ∙ sym q
+
+pub both-exact : (a b r s : Bool) → both.Post tt (a, (b, tt)) r (a, (b, tt)) → both.Post tt (a, (b, tt)) s (a, (b, tt)) → r ≡ s
+both-exact a b r s p q = p ∙ sym q

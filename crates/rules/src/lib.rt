@@ -5,7 +5,7 @@ ghost use Prim.Native.Nat.{_<_};
 ghost use Rattle.plan.specs.Parts.{boxNumber};
 ghost use Rattle.plan.specs.Rules.{typesExist, reversibleInBoth, boundInBoth, kindKnown, addressGiven, countFits, numbersGiven, setsInChoices, reversibleTwice, numbersDiffer};
 ghost use Rattle.plan.specs.Sound.{typesSound, sourceSound, targetSound, boxesSound, ownSound, listedSound};
-ghost use Rattle.plan.specs.Steps.{differsFrom, differsAt, boxSound, numberAt};
+ghost use Rattle.plan.specs.Steps.{differsFrom, differsAt, boxSound};
 use plan::Subscriber;
 use plan::Types;
 
@@ -227,39 +227,45 @@ pub fn own_sound(t: Types, s: Subscriber) -> bool
     boxes_sound(s)
 }
 
-// L13 and L16 at the place x, of the subscriber's numbers alone.
-fn number_at(s: Subscriber, x: usize) -> bool
-    requires { ⌜ x < 4 ⌝ }
-    ensures { λ r. ⌜ r ≡ numberAt s x ⌝ }
+// Whether both hold. Both are worked out before the call, so the compiler makes no branch: a branch would pass over the second test, and one that the machine guesses wrong
+// costs more than the test.
+pub fn both(a: bool, b: bool) -> bool
+    ensures { λ r. ⌜ r ≡ (a && b) ⌝ }
 {
-    let boxes = s.boxes;
-    if x < s.count as usize {
-        if !box_number(boxes[x]) {
-            return false;
-        }
-        differs_at(s, x)
-    } else {
-        true
-    }
+    if a { b } else { false }
 }
 
-// L13 and L16. A line has one number and a mobile none: where there is no second one, nothing is gone through.
+// L13 and L16: each place has a number, and none that a place before it has. A line has one number and a mobile none; two or more are tested all at once, without a branch for each.
 fn numbers_listed(s: Subscriber) -> bool
     ensures { λ r. ⌜ r ≡ (numbersGiven s && numbersDiffer s) ⌝ }
 {
+    let boxes = s.boxes;
     if s.count == 0 {
         return true;
     }
+    let first = boxes[0];
     if s.count == 1 {
-        let boxes = s.boxes;
-        return box_number(boxes[0]);
+        return box_number(first);
     }
-    for x in 0usize..4usize {
-        if !number_at(s, x) {
-            return false;
-        }
+    let second = boxes[1];
+    let two = both(both(box_number(first), box_number(second)), second != first);
+    if s.count == 2 {
+        return two;
     }
-    true
+    let third = boxes[2];
+    let three = both(
+        two,
+        both(box_number(third), both(third != first, third != second)),
+    );
+    if s.count == 3 {
+        return three;
+    }
+    let fourth = boxes[3];
+    let alone = both(
+        both(box_number(fourth), fourth != first),
+        both(fourth != second, fourth != third),
+    );
+    both(three, alone)
 }
 
 // As own_sound, for a reader that has put the zeros past the subscriber's count there itself: those places are not looked at.

@@ -1,73 +1,117 @@
--- `rules::numbers_listed` meets its contract. The loop's invariant: each place passed keeps its rules. Assumes nothing.
-use mathlib.Core.Path.{_≡_, sym, _∙_}
-use mathlib.Core.Bool.{true}
-use Prim.Native.Nat.{_≤_, _-_}
+-- `rules::numbers_listed` meets its contract: by how many numbers there are. Assumes nothing.
+use mathlib.Core.Path.{_≡_, refl, sym, _∙_}
+use Prim.Native.Nat.{_≤_}
 use native.Mathlib.Omega.{arith}
+use Rattle.plan.proofs.Boxes.{firstTwo, firstThree, listed-none, listed-one, listed-two, listed-three, listed-four}
+use Rattle.rules.proofs.Tests.{both-of}
 use borrow.Author.Needs.{needs}
-use borrow.Author.Tests.{not-true, not-false}
-use Rattle.typeset.specs.Sets.{every}
-use Rattle.typeset.proofs.Below.{every-none, every-more, every-no}
-use Rattle.plan.specs.Steps.{numberAt}
-use Rattle.plan.proofs.Boxes.{numbers-places, listed-none, listed-one}
 use Rattle.rules.proofs.numbers_listed.Statement.{statement}
 use Rattle.rules.proofs.numbers_listed.Tie as tie
 
-abbrev Inv-loop : tie.InvT-loop
-Inv-loop s x₀ x = (x ≤ 4) × (every x (numberAt s) ≡ true)
+-- what the code has tested once it has two numbers, and three
+two-tested : (c : tie.After-both2) → c .both2 .result ≡ firstTwo (c .before .before .before .before .before .before .before .before .before .args .s)
+two-tested c = both-of (c .both2 .ensures) (both-of (c .before .both .ensures) (c .before .before .before .box-number2 .ensures) (c .before .before .box-number3 .ensures)) refl
 
-abbrev μ-loop : tie.MeasureT-loop
-μ-loop s x₀ x = 4 - x
+three-tested : (c : tie.After-both5) → c .both5 .result ≡ firstThree (c .before .before .before .before .before .before .before .before .before .before .before .before .before .before .before .args .s)
+three-tested c = both-of (c .both5 .ensures) (two-tested (c .before .before .before .before .before .before)) (both-of (c .before .both4 .ensures) (c .before .before .before .box-number4 .ensures) (c .before .before .both3 .ensures))
 
-returns : tie.Need-returns Inv-loop μ-loop
+returns : tie.Need-returns
 returns c = sym (listed-none _ (c .if1 .taken))
 
-array-read-box-number : tie.Need-array-read-box-number Inv-loop μ-loop
-array-read-box-number c = search needs
+array-read-first : tie.Need-array-read-first
+array-read-first c = search needs
 
-box-number-requires : tie.Need-box-number-requires Inv-loop μ-loop
+box-number-requires : tie.Need-box-number-requires
 box-number-requires c κs = search needs
 
-returns-2 : tie.Need-returns-2 Inv-loop μ-loop
-returns-2 c = c .box-number .ensures ∙ sym (listed-one _ (c .before .before .if2 .taken))
+returns-2 : tie.Need-returns-2
+returns-2 c = c .box-number .ensures ∙ sym (listed-one _ (c .before .if2 .taken))
 
-loop-holds : tie.Need-loop-holds Inv-loop μ-loop
-loop-holds c = (search needs, every-none _)
+array-read-second : tie.Need-array-read-second
+array-read-second c = search needs
 
-number-at-requires : tie.Need-number-at-requires Inv-loop μ-loop
-number-at-requires c κs = search needs
+box-number-requires-2 : tie.Need-box-number-requires-2
+box-number-requires-2 c κs = search needs
 
-returns-3 : tie.Need-returns-3 Inv-loop μ-loop
-returns-3 c =
-    sym (sym (numbers-places _) ∙ every-no 4 _ _ (c .before .before .loop-test .taken) (sym (c .before .number-at .ensures) ∙ not-true _ (c .if3 .taken)))
+box-number-requires-3 : tie.Need-box-number-requires-3
+box-number-requires-3 c κs = search needs
 
-add-x : tie.Need-add-x Inv-loop μ-loop
-add-x c = search needs
+both-requires : tie.Need-both-requires
+both-requires c κs = search needs
 
-loop-less : tie.Need-loop-less Inv-loop μ-loop
-loop-less c = search needs
+both-requires-2 : tie.Need-both-requires-2
+both-requires-2 c κs = search needs
 
-loop-again : tie.Need-loop-again Inv-loop μ-loop
-loop-again c = (search needs, every-more _ _ (c .before .before .before .loop .inv .1) (sym (c .before .number-at .ensures) ∙ not-false _ (c .if3 .left)))
+returns-3 : tie.Need-returns-3
+returns-3 c = two-tested (c .before .before) ∙ sym (listed-two _ (c .if3 .taken))
 
-returns-4 : tie.Need-returns-4 Inv-loop μ-loop
-returns-4 c =
-    let end : c .before .loop .x ≡ 4 = omega arith in
-    sym (sym (numbers-places _) ∙ rw end at (c .before .loop .inv .1))
+array-read-third : tie.Need-array-read-third
+array-read-third c = search needs
+
+box-number-requires-4 : tie.Need-box-number-requires-4
+box-number-requires-4 c κs = search needs
+
+both-requires-3 : tie.Need-both-requires-3
+both-requires-3 c κs = search needs
+
+both-requires-4 : tie.Need-both-requires-4
+both-requires-4 c κs = search needs
+
+both-requires-5 : tie.Need-both-requires-5
+both-requires-5 c κs = search needs
+
+returns-4 : tie.Need-returns-4
+returns-4 c = three-tested (c .before .before) ∙ sym (listed-three _ (c .if4 .taken))
+
+array-read-fourth : tie.Need-array-read-fourth
+array-read-fourth c = search needs
+
+box-number-requires-5 : tie.Need-box-number-requires-5
+box-number-requires-5 c κs = search needs
+
+both-requires-6 : tie.Need-both-requires-6
+both-requires-6 c κs = search needs
+
+both-requires-7 : tie.Need-both-requires-7
+both-requires-7 c κs = search needs
+
+both-requires-8 : tie.Need-both-requires-8
+both-requires-8 c κs = search needs
+
+both-requires-9 : tie.Need-both-requires-9
+both-requires-9 c κs = search needs
+
+returns-5 : tie.Need-returns-5
+returns-5 c =
+    let many : 4 ≤ c .before .before .before .before .before .before .before .before .before .before .before .before .before .before .before .before .before .before .before .before .before .before .args .s .count =
+    omega (arith, c .before .before .before .before .before .before .before .before .before .before .before .before .before .before .before .before .before .before .before .if1 .left, c .before .before .before .before .before .before .before .before .before .before .before .before .before .before .before .before .before .if2 .left, c .before .before .before .before .before .before .before .before .before .before .before .if3 .left, c .before .before .before .before .before .if4 .left) in
+    both-of (c .both9 .ensures) (three-tested (c .before .before .before .before .before .before .before)) (both-of (c .before .both8 .ensures) (both-of (c .before .before .before .both6 .ensures) (c .before .before .before .before .box-number5 .ensures) refl) (c .before .before .both7 .ensures))
+    ∙ sym (listed-four _ many)
 
 pub numbers-listed-spec : {M : Type 1} → statement M
 numbers-listed-spec =
     tie.close
     (tie.spec
-    Inv-loop
-    μ-loop
     returns
-    array-read-box-number
+    array-read-first
     box-number-requires
     returns-2
-    loop-holds
-    number-at-requires
+    array-read-second
+    box-number-requires-2
+    box-number-requires-3
+    both-requires
+    both-requires-2
     returns-3
-    add-x
-    loop-less
-    loop-again
-    returns-4)
+    array-read-third
+    box-number-requires-4
+    both-requires-3
+    both-requires-4
+    both-requires-5
+    returns-4
+    array-read-fourth
+    box-number-requires-5
+    both-requires-6
+    both-requires-7
+    both-requires-8
+    both-requires-9
+    returns-5)
