@@ -1,6 +1,6 @@
 // The test of a whole plan: every subscriber beside those before it, with a table of the box numbers that are taken, and the places that are not in use. What each function says is in the crate `plan`.
 ghost use mathlib.Core.Path.{_≡_};
-ghost use mathlib.Core.Bool.{cond};
+ghost use mathlib.Core.Bool.{_||_, cond};
 ghost use Prim.Native.Nat.{_-_, _*_, _%_, _<_, _≤_};
 ghost use lib.Dec.{eqb};
 ghost use lib.ListN.{length, getD, replicate};
@@ -33,17 +33,19 @@ fn holder(taken: &[u32; 4096], n: u16) -> u8
     ((word >> bits_of(n)) % 4) as u8
 }
 
+// Whether one of the two holds. Both are worked out before the call, so the compiler makes no branch, as in `rules::both`.
+fn either(a: bool, b: bool) -> bool
+    ensures { λ r. ⌜ r ≡ (a || b) ⌝ }
+{
+    if a { true } else { b }
+}
+
+// Whether a kind may have the number n: nobody has it, or only others of the kind, which are no lines. Who has it is not to be foreseen, so there is no branch.
 fn may_take(taken: &[u32; 4096], kind: u8, n: u16) -> bool
     ensures { λ r. ⌜ r ≡ mayTake (now (taken .entry)) kind n ⌝ }
 {
     let holder = holder(taken, n);
-    if holder == 0 {
-        return true;
-    }
-    if kind == 1 {
-        return false;
-    }
-    holder == kind
+    either(holder == 0, rules::both(holder == kind, kind != 1))
 }
 
 fn fits_at(taken: &[u32; 4096], s: Subscriber, x: usize) -> bool
