@@ -67,6 +67,6 @@ pub route-seen-exact : (κs : Lfts 2) (kept : Bool) (v : Seen) (out : Setup) (la
     → (plan : Plan) → seen plan (out .source) (target1 out) ≡ v
     → (r ≡ s) × (end .1 .1 .1 .1 .0 .now ≡ end′ .1 .1 .1 .1 .0 .now) × (end .1 .1 .1 .1 .1 .0 .now ≡ end′ .1 .1 .1 .1 .1 .0 .now)
 route-seen-exact κs kept v out later source target end end′ r s p q plan shows =
-    let of-p = p plan shows in
-    let of-q = q plan shows in
+    let of-p = p .0 plan shows in
+    let of-q = q .0 plan shows in
     (of-p .0 ∙ sym (of-q .0), of-p .1 ∙ sym (of-q .1), of-p .2 ∙ sym (of-q .2))

@@ -1,7 +1,8 @@
 -- Where the route lies in the two lent lists: what is left of it is an end part of the zone that the region chooses. The parts of the program that work on the lists promise these;
 -- that they are the steps of routing is proved (proofs/Parts.antt). Assumes nothing.
 use Prim.Native.Nat.{ℕ, _-_}
-use mathlib.Core.Bool.{Bool, cond}
+use mathlib.Core.Path.{_≡_}
+use mathlib.Core.Bool.{Bool, true, false, cond}
 use mathlib.Core.List.{List}
 use lib.Dec.{eqb}
 use lib.ListN.{length, drop}
@@ -22,7 +23,8 @@ use Rattle.setup.specs.Setups.{faultIn, faultless}
 use Rattle.routing.specs.declared.First.{First}
 use Rattle.routing.specs.declared.First.the-variants.{Box, Nothing as NoBox}
 use Rattle.routing.specs.declared.Later.{Later}
-use Rattle.routing.specs.declared.Outcome.the-variants.{Routed}
+use Rattle.routing.specs.declared.Outcome.{Outcome}
+use Rattle.routing.specs.declared.Outcome.the-variants.{Routed, Refused}
 use Rattle.routing.specs.declared.Answer.{Answer}
 use Rattle.routing.specs.Steps.{before, tail, region3, route3, outer3, callee4, received4}
 use Rattle.routing.specs.Routing.{unless, roomy, answered}
@@ -65,3 +67,14 @@ settledIn kept zone reversible out later sourceRoom targetRoom =
 -- ---- the look-up of an interface box: the first that the subscriber lists, or nothing
 abbrev pub firstListed : Subscriber → First
 firstListed s = cond (eqb (s .count) 0) NoBox (Box (s .kind) (box s 0))
+
+-- ---- whatever a part of a plan shows
+
+-- the setup was routed
+abbrev pub isRouted : Outcome → Bool
+isRouted (Routed c) = true
+isRouted (Refused r) = false
+
+-- what was lent, beside an outcome: after a refusal it is as it was before
+abbrev pub KeptBeside : Outcome → List ℕ → List ℕ → Type 0
+KeptBeside o before after = isRouted o ≡ false → after ≡ before

@@ -1,5 +1,6 @@
 // Routing: the four steps from a setup sent to the callee box and the setup it receives (manual section 6).
 ghost use mathlib.Core.Path.{_≡_};
+ghost use mathlib.Core.Bool.{true};
 ghost use Prim.Native.Nat.{_-_, _≤_, min};
 ghost use lib.ListN.{length, take, drop};
 ghost use lib.Seq.{sets};
@@ -12,7 +13,7 @@ ghost use Rattle.routing.specs.declared.Later.the-variants.{Nothing};
 ghost use Rattle.routing.specs.Interface.{boxOf, firstBox};
 ghost use Rattle.routing.specs.Steps.{dials, target1, placeOf, before, exhausted, tail, callee4, received4};
 ghost use Rattle.routing.specs.Routing.{roomy, refusedWith, outcome, outcomeBy, answer, answerBy, sourceList, targetList};
-ghost use Rattle.routing.specs.Places.{firstListed, listIn, zoneIn, suffixBegins, begins, delivered, advanced, settledIn};
+ghost use Rattle.routing.specs.Places.{isRouted, KeptBeside, firstListed, listIn, zoneIn, suffixBegins, begins, delivered, advanced, settledIn};
 use embedded::Dials;
 use plan::Plan;
 use plan::Region;
@@ -277,6 +278,7 @@ fn deliver(
 ) -> Answer
     requires { ⌜ length (now rest) ≤ 32 ⌝ }
     ensures { λ r. ⌜ ((p : Plan) → holderAt p target ≡ holder → r ≡ delivered p out target region outer (now (rest .entry))) ⌝ }
+    ensures routed { λ r. ⌜ isRouted (r .outcome) ≡ true ⌝ }
 {
     Answer {
         outcome: Outcome::Routed(box_chosen(holder, out.source, target, region, rest)),
@@ -297,6 +299,7 @@ fn hand_over<'a>(
 ) -> Answer
     requires { ⌜ (take (length (listOf «source_zone»)) (now «source_list») ≡ listOf «source_zone») × (take (length (listOf «target_zone»)) (now «target_list») ≡ listOf «target_zone») × (length (listOf «source_zone») ≤ 32) × (length (listOf «target_zone») ≤ 32) ⌝ }
     ensures { λ r. ⌜ ((p : Plan) → holderAt p target ≡ holder → r ≡ advanced p out target (drop (begins (out .route) (out .placing) (listOf (out .list)) (listOf (zoneIn (out .region) «source_zone» «target_zone»))) (listOf (zoneIn (out .region) «source_zone» «target_zone»))) (listOf «target_zone»)) ⌝ }
+    ensures routed { λ r. ⌜ isRouted (r .outcome) ≡ true ⌝ }
 {
     let region = out.region;
     let route = out.route;
@@ -380,7 +383,7 @@ fn refused(r: Refusal) -> Answer
 }
 
 // Routing by what a plan shows of the setup's source and of its target after step 1, and by a verdict on the plan: for a caller that has read these two subscribers, and not the whole plan. The
-// answer is that of every plan that shows this; nothing is promised of what no plan shows. `kept` says whether the plan is sound.
+// answer is that of every plan that shows this; of what no plan shows it is only promised that a refusal leaves both lists as they were. `kept` says whether the plan is sound.
 pub fn route_seen(
     kept: bool,
     v: Seen,
@@ -393,6 +396,7 @@ pub fn route_seen(
         → (r ≡ answerBy kept p out later (length (now («source_list» .entry))) (length (now («target_list» .entry))))
         × (now («source_list» .exit) ≡ sourceList p out (outcomeBy kept p out later (length (now («source_list» .entry))) (length (now («target_list» .entry)))) (now («source_list» .entry)))
         × (now («target_list» .exit) ≡ targetList p out (outcomeBy kept p out later (length (now («source_list» .entry))) (length (now («target_list» .entry)))) (now («target_list» .entry)))) ⌝ }
+    ensures unchanged { λ r. ⌜ KeptBeside (r .outcome) (now («source_list» .entry)) (now («source_list» .exit)) × KeptBeside (r .outcome) (now («target_list» .entry)) (now («target_list» .exit)) ⌝ }
 {
     let target = extracted(out);
     let types = v.types;

@@ -1,4 +1,5 @@
 -- `routing::deliver` meets its contract. Assumes nothing.
+use mathlib.Core.Path.{refl}
 use Rattle.routing.specs.Routing.{answered}
 use Rattle.routing.specs.Places.{delivered}
 use Rattle.routing.proofs.Parts.{tail-length}
@@ -20,9 +21,9 @@ cast-t12 c = search needs
 
 returns : tie.Need-returns
 unfolding delivered answered
-returns c p shown =
+returns c =
     let rest = c .before .before .before .before .args .rest .now in
-    rw (c .before .before .box-chosen .ensures p shown, c .before .received .ensures, c .less .ensures, tail-length rest)
+    (λ p shown. rw (c .before .before .box-chosen .ensures p shown, c .before .received .ensures, c .less .ensures, tail-length rest), refl)
 
 pub deliver-spec : {M : Type 1} → statement M
 deliver-spec =

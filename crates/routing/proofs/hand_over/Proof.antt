@@ -50,24 +50,30 @@ deliver-requires-2 c κs =
     rw (rest, length-drop _ (listOf zone)) (omega (arith, low))
 
 returns : tie.Need-returns
-returns c p shown =
-    let a = c .before .before .before .before .before .before .before .before .before .before .args in
-    let zone = zoneIn (a .out .region) (a .source-zone) (a .target-zone) in
-    let rest : c .before .expand .result .now ≡ listOf (a .target-zone) = rw (c .before .before .list-length .ensures, c .before .before .before .before .before .before .before .before .before .before .pre .1) at (c .before .expand .ensures) in
-    let gone : exhausted (a .out .region) (drop (begins (a .out .route) (a .out .placing) (listOf (a .out .list)) (listOf zone)) (listOf zone)) ≡ true =
-    rw (c .before .before .before .before .before .begins .ensures, c .before .before .before .before .before .before .zone-in .ensures) at (sym (c .before .before .before .before .exhausted .ensures) ∙ c .before .before .before .if1 .taken) in
-    rw (advanced-on p (a .out) (a .target) _ (listOf (a .target-zone)) gone, ← rest) (c .deliver .ensures p shown)
+returns c = (
+  λ p shown.
+      let a = c .before .before .before .before .before .before .before .before .before .before .args in
+      let zone = zoneIn (a .out .region) (a .source-zone) (a .target-zone) in
+      let rest : c .before .expand .result .now ≡ listOf (a .target-zone) = rw (c .before .before .list-length .ensures, c .before .before .before .before .before .before .before .before .before .before .pre .1) at (c .before .expand .ensures) in
+      let gone : exhausted (a .out .region) (drop (begins (a .out .route) (a .out .placing) (listOf (a .out .list)) (listOf zone)) (listOf zone)) ≡ true =
+      rw (c .before .before .before .before .before .begins .ensures, c .before .before .before .before .before .before .zone-in .ensures) at (sym (c .before .before .before .before .exhausted .ensures) ∙ c .before .before .before .if1 .taken) in
+      rw (advanced-on p (a .out) (a .target) _ (listOf (a .target-zone)) gone, ← rest) (c .deliver .ensures .0 p shown),
+  c .deliver .ensures .1,
+)
 
 returns-2 : tie.Need-returns-2
-returns-2 c p shown =
-    let a = c .before .before .before .before .before .before .before .before .before .before .args in
-    let zone = zoneIn (a .out .region) (a .source-zone) (a .target-zone) in
-    let whole : take (length (listOf zone)) (listIn (a .out .region) (a .source-list .now) (a .target-list .now)) ≡ listOf zone = list-begins (a .out .region) (a .source-zone) (a .target-zone) (a .source-list .now) (a .target-list .now) (c .before .before .before .before .before .before .before .before .before .before .pre .0) (c .before .before .before .before .before .before .before .before .before .before .pre .1) in
-    let rest : c .before .expand2 .result .now ≡ drop (begins (a .out .route) (a .out .placing) (listOf (a .out .list)) (listOf zone)) (listOf zone) =
-    rw (c .before .before .list-length2 .ensures, c .before .before .before .before .before .begins .ensures, c .before .before .before .before .before .before .zone-in .ensures, whole) at (c .before .expand2 .ensures) in
-    let gone : exhausted (a .out .region) (drop (begins (a .out .route) (a .out .placing) (listOf (a .out .list)) (listOf zone)) (listOf zone)) ≡ false =
-    rw (c .before .before .before .before .before .begins .ensures, c .before .before .before .before .before .before .zone-in .ensures) at (sym (c .before .before .before .before .exhausted .ensures) ∙ c .before .before .before .if1 .left) in
-    rw (advanced-not p (a .out) (a .target) _ (listOf (a .target-zone)) gone, ← rest) (c .deliver2 .ensures p shown)
+returns-2 c = (
+  λ p shown.
+      let a = c .before .before .before .before .before .before .before .before .before .before .args in
+      let zone = zoneIn (a .out .region) (a .source-zone) (a .target-zone) in
+      let whole : take (length (listOf zone)) (listIn (a .out .region) (a .source-list .now) (a .target-list .now)) ≡ listOf zone = list-begins (a .out .region) (a .source-zone) (a .target-zone) (a .source-list .now) (a .target-list .now) (c .before .before .before .before .before .before .before .before .before .before .pre .0) (c .before .before .before .before .before .before .before .before .before .before .pre .1) in
+      let rest : c .before .expand2 .result .now ≡ drop (begins (a .out .route) (a .out .placing) (listOf (a .out .list)) (listOf zone)) (listOf zone) =
+      rw (c .before .before .list-length2 .ensures, c .before .before .before .before .before .begins .ensures, c .before .before .before .before .before .before .zone-in .ensures, whole) at (c .before .expand2 .ensures) in
+      let gone : exhausted (a .out .region) (drop (begins (a .out .route) (a .out .placing) (listOf (a .out .list)) (listOf zone)) (listOf zone)) ≡ false =
+      rw (c .before .before .before .before .before .begins .ensures, c .before .before .before .before .before .before .zone-in .ensures) at (sym (c .before .before .before .before .exhausted .ensures) ∙ c .before .before .before .if1 .left) in
+      rw (advanced-not p (a .out) (a .target) _ (listOf (a .target-zone)) gone, ← rest) (c .deliver2 .ensures .0 p shown),
+  c .deliver2 .ensures .1,
+)
 
 pub hand-over-spec : {M : Type 1} → statement M
 hand-over-spec =

@@ -1,6 +1,7 @@
 -- `routing::route_seen` meets its contract. What the parts ask is shown with no plan at hand; what is promised is shown for any plan that shows `v`. Assumes nothing.
-use mathlib.Core.Path.{_≡_, sym, ap, _∙_}
+use mathlib.Core.Path.{_≡_, refl, sym, ap, _∙_}
 use Prim.Native.Nat.{_≤_}
+use Rattle.typeset.proofs.Bools.{clash}
 use native.Mathlib.Omega.{arith}
 use lib.ListN.{length}
 use Rattle.plan.specs.Find.{holderAt}
@@ -80,21 +81,24 @@ hand-over-requires c κs =
     )
 
 returns : tie.Need-returns
-returns c p shows =
-    let z = c .before .before .before .before .before in
-    let a = z .before .before .before .before .before .before .before .before .before .before .args in
-    let zs = z .before .zone-of .result in
-    let zt = z .zone-of2 .result in
-    let n = length (a .source-list .now) in
-    let m = length (a .target-list .now) in
-    let source = source-shown p (a .out) shows zs (z .before .zone-of .ensures) in
-    let target = target-shown p (a .out) shows zt (z .zone-of2 .ensures) in
-    let same = settled-shown p (a .out) shows (a .kept) (a .later) n m zs zt source target in
-    let refuse : settledBy (a .kept) p (a .out) (a .later) n m ≡ Refuse (c .before .before .r .given .0 .0) = sym same ∙ sym (c .before .before .before .before .settled .ensures) ∙ c .before .before .r .given .1 in (
-      c .refused .ensures ∙ sym (answer-refused (a .kept) p (a .out) (a .later) n m _ refuse),
-      sym (source-refused (a .kept) p (a .out) (a .later) n m _ (a .source-list .now) refuse),
-      sym (target-refused (a .kept) p (a .out) (a .later) n m _ (a .target-list .now) refuse),
-    )
+returns c = (
+  λ p shows.
+      let z = c .before .before .before .before .before in
+      let a = z .before .before .before .before .before .before .before .before .before .before .args in
+      let zs = z .before .zone-of .result in
+      let zt = z .zone-of2 .result in
+      let n = length (a .source-list .now) in
+      let m = length (a .target-list .now) in
+      let source = source-shown p (a .out) shows zs (z .before .zone-of .ensures) in
+      let target = target-shown p (a .out) shows zt (z .zone-of2 .ensures) in
+      let same = settled-shown p (a .out) shows (a .kept) (a .later) n m zs zt source target in
+      let refuse : settledBy (a .kept) p (a .out) (a .later) n m ≡ Refuse (c .before .before .r .given .0 .0) = sym same ∙ sym (c .before .before .before .before .settled .ensures) ∙ c .before .before .r .given .1 in (
+        c .refused .ensures ∙ sym (answer-refused (a .kept) p (a .out) (a .later) n m _ refuse),
+        sym (source-refused (a .kept) p (a .out) (a .later) n m _ (a .source-list .now) refuse),
+        sym (target-refused (a .kept) p (a .out) (a .later) n m _ (a .target-list .now) refuse),
+      ),
+  (λ refused. refl, λ refused. refl),
+)
 
 same-length : tie.Need-same-length
 same-length c = search needs
@@ -103,29 +107,32 @@ same-length-2 : tie.Need-same-length-2
 same-length-2 c = search needs
 
 returns-2 : tie.Need-returns-2
-returns-2 c p shows =
-    let z = c .before .before .before .before .before .before .before .before .before .before .before .before .before .before in
-    let a = z .before .before .before .before .before .before .before .before .before .before .args in
-    let zs = z .before .zone-of .result in
-    let zt = z .zone-of2 .result in
-    let n = length (a .source-list .now) in
-    let m = length (a .target-list .now) in
-    let room = settled-room (a .kept) (listOf (zoneIn (a .out .region) zs zt)) (a .v .types .reversible) (a .out) (a .later) n m (sym (c .before .before .before .before .before .before .before .before .before .before .before .before .before .settled .ensures) ∙ c .before .before .before .before .before .before .before .before .before .before .before .enum-told .given .1) in
-    let source-low : length (listOf zs) ≤ 32 = zone-held-short (a .v .«source_order») (a .v .first .source) zs (z .before .zone-of .ensures) in
-    let target-low : length (listOf zt) ≤ 32 = zone-held-short (a .v .«target_order») (a .v .second .target) zt (z .zone-of2 .ensures) in
-    let source-fits : length (listOf zs) ≤ n = omega (arith, room-source n m room) in
-    let target-fits : length (listOf zt) ≤ m = omega (arith, room-target n m room) in
-    let source = source-shown p (a .out) shows zs (z .before .zone-of .ensures) in
-    let target = target-shown p (a .out) shows zt (z .zone-of2 .ensures) in
-    let same = settled-shown p (a .out) shows (a .kept) (a .later) n m zs zt source target in
-    let nothing : settledBy (a .kept) p (a .out) (a .later) n m ≡ Nothing = sym same ∙ sym (c .before .before .before .before .before .before .before .before .before .before .before .before .before .settled .ensures) ∙ c .before .before .before .before .before .before .before .before .before .before .before .enum-told .given .1 in
-    let extracted = z .before .before .before .before .before .before .before .extracted .ensures in
-    let holder = ap (holderAt p) extracted ∙ seen-second p (a .out .source) (target1 (a .out)) shows in
-    let over = rw extracted at (c .hand-over .ensures p holder) in (
-      over ∙ handed-over (a .kept) p (a .out) (a .later) n m zs zt source target nothing,
-      c .before .before .before .before .before .before .before .before .before .put .ensures ∙ source-routed (a .kept) p (a .out) (a .later) n m zs (a .source-list .now) nothing source source-fits,
-      c .before .before .before .before .before .put2 .ensures ∙ target-routed (a .kept) p (a .out) (a .later) n m zt (a .target-list .now) nothing target target-fits,
-    )
+returns-2 c = (
+  λ p shows.
+      let z = c .before .before .before .before .before .before .before .before .before .before .before .before .before .before in
+      let a = z .before .before .before .before .before .before .before .before .before .before .args in
+      let zs = z .before .zone-of .result in
+      let zt = z .zone-of2 .result in
+      let n = length (a .source-list .now) in
+      let m = length (a .target-list .now) in
+      let room = settled-room (a .kept) (listOf (zoneIn (a .out .region) zs zt)) (a .v .types .reversible) (a .out) (a .later) n m (sym (c .before .before .before .before .before .before .before .before .before .before .before .before .before .settled .ensures) ∙ c .before .before .before .before .before .before .before .before .before .before .before .enum-told .given .1) in
+      let source-low : length (listOf zs) ≤ 32 = zone-held-short (a .v .«source_order») (a .v .first .source) zs (z .before .zone-of .ensures) in
+      let target-low : length (listOf zt) ≤ 32 = zone-held-short (a .v .«target_order») (a .v .second .target) zt (z .zone-of2 .ensures) in
+      let source-fits : length (listOf zs) ≤ n = omega (arith, room-source n m room) in
+      let target-fits : length (listOf zt) ≤ m = omega (arith, room-target n m room) in
+      let source = source-shown p (a .out) shows zs (z .before .zone-of .ensures) in
+      let target = target-shown p (a .out) shows zt (z .zone-of2 .ensures) in
+      let same = settled-shown p (a .out) shows (a .kept) (a .later) n m zs zt source target in
+      let nothing : settledBy (a .kept) p (a .out) (a .later) n m ≡ Nothing = sym same ∙ sym (c .before .before .before .before .before .before .before .before .before .before .before .before .before .settled .ensures) ∙ c .before .before .before .before .before .before .before .before .before .before .before .enum-told .given .1 in
+      let extracted = z .before .before .before .before .before .before .before .extracted .ensures in
+      let holder = ap (holderAt p) extracted ∙ seen-second p (a .out .source) (target1 (a .out)) shows in
+      let over = rw extracted at (c .hand-over .ensures .0 p holder) in (
+        over ∙ handed-over (a .kept) p (a .out) (a .later) n m zs zt source target nothing,
+        c .before .before .before .before .before .before .before .before .before .put .ensures ∙ source-routed (a .kept) p (a .out) (a .later) n m zs (a .source-list .now) nothing source source-fits,
+        c .before .before .before .before .before .put2 .ensures ∙ target-routed (a .kept) p (a .out) (a .later) n m zt (a .target-list .now) nothing target target-fits,
+      ),
+  (λ refused. absurd (clash (c .hand-over .ensures .1) refused), λ refused. absurd (clash (c .hand-over .ensures .1) refused)),
+)
 
 pub route-seen-spec : {M : Type 1} → statement M
 route-seen-spec =

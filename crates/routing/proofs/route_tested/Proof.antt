@@ -24,7 +24,7 @@ returns c =
     let routed = c .before .before .before .before in
     let looked = routed .before .before .before in
     let shown = rw (looked .before .extracted .ensures) at (looked .look .ensures) in
-    routed .route-seen .ensures (looked .before .before .before .before .args .plan) (sym shown)
+    routed .route-seen .ensures .0 (looked .before .before .before .before .args .plan) (sym shown)
 
 pub route-tested-spec : {M : Type 1} → statement M
 route-tested-spec =
