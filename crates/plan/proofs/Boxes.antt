@@ -27,16 +27,7 @@ pub differs-past : (s : Subscriber) (x : ℕ) → ltb x (s .count) ≡ false →
 unfolding differsAt differsFrom
 differs-past s x e = every-of x (differsFrom s x) (λ y h. rw e)
 
--- a test of each number that a subscriber has asks nothing where there is none, and where there is one it is the test of the first
-pub numbers-none : (p : ℕ → Bool) {count : ℕ} → count ≡ 0 → every 4 (λ x. implies (ltb x count) (p x)) ≡ true
-unfolding every
-numbers-none p e = rw e
-
-pub numbers-one : (p : ℕ → Bool) {count : ℕ} → count ≡ 1 → every 4 (λ x. implies (ltb x count) (p x)) ≡ p 0
-unfolding every
-numbers-one p e = rw e (and-true (p 0))
-
--- it is the test of the first m, as many as there are; a count above four says no more than four
+-- a test of each number that a subscriber has is the test of the first m places, as many as there are; a count above four says no more than four
 pub numbers-first : (p : ℕ → Bool) (count m : ℕ) → m ≡ min count 4 → every 4 (λ x. implies (ltb x count) (p x)) ≡ every m p
 numbers-first p count m e =
     both-ways (every 4 (λ x. implies (ltb x count) (p x))) (every m p)
@@ -48,26 +39,21 @@ every-under : (n : ℕ) (a : Bool) (p : ℕ → Bool) → every n (λ y. implies
 every-under n true p = refl
 every-under n false p = every-of n (λ y. true) (λ y h. refl)
 
--- L13 and L16 at the place x: a box number, and none of those before it
-abbrev pub listedAt : Subscriber → ℕ → Bool
-listedAt s x = boxNumber (box s x) && every x (λ y. not (eqb (box s x) (box s y)))
-
-pub listed-first : (s : Subscriber) (m : ℕ) → m ≡ min (s .count) 4 → (numbersGiven s && numbersDiffer s) ≡ every m (listedAt s)
-unfolding numbersGiven numbersDiffer
-listed-first s m e =
-    let given : ℕ → Bool = λ x. boxNumber (box s x) in
-    let differs : ℕ → Bool = λ x. every x (λ y. not (eqb (box s x) (box s y))) in
-    ap₂ _&&_ (numbers-first given (s .count) m e)
-    (every-ext 4 _ _ (λ x h. every-under x (ltb x (s .count)) (λ y. not (eqb (box s x) (box s y)))) ∙ numbers-first differs (s .count) m e)
-    ∙ sym (every-and m given differs)
-
--- so by how many there are, in the groups in which `rules::numbers_listed` tests them
 abbrev number : Subscriber → ℕ → Bool
 number s x = boxNumber (box s x)
 
 abbrev differ : Subscriber → ℕ → ℕ → Bool
 differ s x y = not (eqb (box s x) (box s y))
 
+-- L13 and L16 of the first m places: in each a box number, and none of those before it
+listed-first : (s : Subscriber) (m : ℕ) → m ≡ min (s .count) 4 → (numbersGiven s && numbersDiffer s) ≡ every m (λ x. number s x && every x (differ s x))
+unfolding numbersGiven numbersDiffer
+listed-first s m e =
+    ap₂ _&&_ (numbers-first (number s) (s .count) m e)
+    (every-ext 4 _ _ (λ x h. every-under x (ltb x (s .count)) (differ s x)) ∙ numbers-first (λ x. every x (differ s x)) (s .count) m e)
+    ∙ sym (every-and m (number s) (λ x. every x (differ s x)))
+
+-- so by how many there are, in the groups in which `rules::numbers_listed` tests them
 abbrev pub firstTwo : Subscriber → Bool
 firstTwo s = (number s 0 && number s 1) && differ s 1 0
 

@@ -1,12 +1,10 @@
 -- What the small functions of a subscriber's test (`rules`, `soundness`) answer: a rule at one box number, or beside the subscriber before. Assumes nothing.
 use Prim.Native.Nat.{ℕ}
 use mathlib.Core.Bool.{Bool, not, _&&_}
-use mathlib.Core.List.{List}
 use lib.Dec.{eqb, ltb, leb}
 use Rattle.typeset.specs.Sets.{every, implies}
 use Rattle.plan.specs.declared.Subscriber.{Subscriber}
 use Rattle.plan.specs.Parts.{boxNumber, box}
-use Rattle.plan.specs.Table.{mayTake}
 
 -- ---- a subscriber's box number at place x: L16 beside the number at place y, L16, and L13, L16 and L20
 unfoldable pub differsFrom : Subscriber → ℕ → ℕ → Bool
@@ -22,7 +20,3 @@ boxSound s x =
 -- ---- L19: the address at place i and the one before it
 unfoldable pub above : ℕ → ℕ → ℕ → Bool
 above i before address = implies (ltb 0 i) (ltb before address)
-
--- ---- the table: at a subscriber's place x
-unfoldable pub fitsAt : List ℕ → Subscriber → ℕ → Bool
-fitsAt taken s x = implies (ltb x (s .count)) (mayTake taken (s .kind) (box s x))

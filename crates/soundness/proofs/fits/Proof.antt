@@ -1,77 +1,122 @@
--- `soundness::fits` meets its contract. The loop's invariant: each number passed fits. Assumes nothing.
+-- `soundness::fits` meets its contract: by how many numbers there are. Assumes nothing.
 use mathlib.Core.Path.{_≡_, sym, _∙_}
-use mathlib.Core.Bool.{true}
-use Prim.Native.Nat.{_≤_, _-_}
+use mathlib.Core.Bool.{Bool, _&&_, and-true, and-assoc}
+use mathlib.Core.List.{List}
+use Prim.Native.Nat.{ℕ, _≤_, min}
 use native.Mathlib.Omega.{arith}
-use borrow.Author.Needs.{needs}
-use borrow.Author.Tests.{not-true, not-false}
 use Rattle.typeset.specs.Sets.{every}
-use Rattle.typeset.proofs.Below.{every-none, every-more, every-no}
-use Rattle.plan.specs.Table.{fits}
-use Rattle.plan.specs.Steps.{fitsAt}
-use Rattle.plan.proofs.Boxes.{numbers-none, numbers-one}
+use Rattle.plan.specs.declared.Subscriber.{Subscriber}
+use Rattle.plan.specs.Parts.{box}
+use Rattle.plan.specs.Table.{mayTake, fits}
+use Rattle.plan.proofs.Boxes.{numbers-first}
+use Rattle.rules.proofs.Tests.{both-of}
+use borrow.Author.Needs.{needs}
 use Rattle.soundness.proofs.fits.Statement.{statement}
 use Rattle.soundness.proofs.fits.Tie as tie
 
-abbrev Inv-loop : tie.InvT-loop
-Inv-loop taken s x₀ x = (x ≤ 4) × (every x (fitsAt taken s) ≡ true)
+abbrev may : List ℕ → Subscriber → ℕ → Bool
+may taken s x = mayTake taken (s .kind) (box s x)
 
-abbrev μ-loop : tie.MeasureT-loop
-μ-loop taken s x₀ x = 4 - x
-
-returns : tie.Need-returns Inv-loop μ-loop
+-- where there are m numbers, of which four are looked up at most
+fits-first : (taken : List ℕ) (s : Subscriber) (m : ℕ) → m ≡ min (s .count) 4 → fits taken s ≡ every m (may taken s)
 unfolding fits
-returns c = sym (numbers-none _ (c .if1 .taken))
+fits-first taken s m e = numbers-first (may taken s) (s .count) m e
 
-array-read-may-take : tie.Need-array-read-may-take Inv-loop μ-loop
+abbrev firstTwo : List ℕ → Subscriber → Bool
+firstTwo taken s = may taken s 0 && may taken s 1
+
+abbrev firstThree : List ℕ → Subscriber → Bool
+firstThree taken s = firstTwo taken s && may taken s 2
+
+-- what the code has looked up once it has two numbers, and three
+two-tested : (c : tie.After-both) → c .both .result ≡ firstTwo (c .before .before .before .before .before .before .before .before .args .taken .now) (c .before .before .before .before .before .before .before .before .args .s)
+two-tested c = both-of (c .both .ensures) (c .before .before .may-take2 .ensures) (c .before .may-take3 .ensures)
+
+three-tested : (c : tie.After-both2) → c .both2 .result ≡ firstThree (c .before .before .before .before .before .before .before .before .before .before .before .before .args .taken .now) (c .before .before .before .before .before .before .before .before .before .before .before .before .args .s)
+three-tested c = both-of (c .both2 .ensures) (two-tested (c .before .before .before .before)) (c .before .may-take4 .ensures)
+
+returns : tie.Need-returns
+unfolding every
+returns c = sym (fits-first _ _ 0 (omega arith))
+
+array-read-may-take : tie.Need-array-read-may-take
 array-read-may-take c = search needs
 
-may-take-requires : tie.Need-may-take-requires Inv-loop μ-loop
+may-take-requires : tie.Need-may-take-requires
 may-take-requires c κs = search needs
 
-returns-2 : tie.Need-returns-2 Inv-loop μ-loop
-unfolding fits
-returns-2 c = c .may-take .ensures ∙ sym (numbers-one _ (c .before .before .if2 .taken))
+returns-2 : tie.Need-returns-2
+unfolding every
+returns-2 c = c .may-take .ensures ∙ sym (fits-first _ _ 1 (omega arith) ∙ simp and-true)
 
-loop-holds : tie.Need-loop-holds Inv-loop μ-loop
-loop-holds c = (search needs, every-none _)
+array-read-may-take-2 : tie.Need-array-read-may-take-2
+array-read-may-take-2 c = search needs
 
-fits-at-requires : tie.Need-fits-at-requires Inv-loop μ-loop
-fits-at-requires c κs = search needs
+may-take-requires-2 : tie.Need-may-take-requires-2
+may-take-requires-2 c κs = search needs
 
-returns-3 : tie.Need-returns-3 Inv-loop μ-loop
-unfolding fits fitsAt
-returns-3 c = sym (every-no 4 _ _ (c .before .before .loop-test .taken) (sym (c .before .fits-at .ensures) ∙ not-true _ (c .if3 .taken)))
+array-read-may-take-3 : tie.Need-array-read-may-take-3
+array-read-may-take-3 c = search needs
 
-add-x : tie.Need-add-x Inv-loop μ-loop
-add-x c = search needs
+may-take-requires-3 : tie.Need-may-take-requires-3
+may-take-requires-3 c κs = search needs
 
-loop-less : tie.Need-loop-less Inv-loop μ-loop
-loop-less c = search needs
+both-requires : tie.Need-both-requires
+both-requires c κs = search needs
 
-loop-again : tie.Need-loop-again Inv-loop μ-loop
-loop-again c = (search needs, every-more _ _ (c .before .before .before .loop .inv .1) (sym (c .before .fits-at .ensures) ∙ not-false _ (c .if3 .left)))
+returns-3 : tie.Need-returns-3
+unfolding every
+returns-3 c = two-tested (c .before .before) ∙ sym (fits-first _ _ 2 (omega arith) ∙ simp and-true)
 
-returns-4 : tie.Need-returns-4 Inv-loop μ-loop
-unfolding fits fitsAt
-returns-4 c =
-    let end : c .before .loop .x ≡ 4 = omega arith in
-    sym (rw end at (c .before .loop .inv .1))
+array-read-may-take-4 : tie.Need-array-read-may-take-4
+array-read-may-take-4 c = search needs
+
+may-take-requires-4 : tie.Need-may-take-requires-4
+may-take-requires-4 c κs = search needs
+
+both-requires-2 : tie.Need-both-requires-2
+both-requires-2 c κs = search needs
+
+returns-4 : tie.Need-returns-4
+unfolding every
+returns-4 c = three-tested (c .before .before) ∙ sym (fits-first _ _ 3 (omega arith) ∙ simp (and-true, and-assoc))
+
+array-read-may-take-5 : tie.Need-array-read-may-take-5
+array-read-may-take-5 c = search needs
+
+may-take-requires-5 : tie.Need-may-take-requires-5
+may-take-requires-5 c κs = search needs
+
+both-requires-3 : tie.Need-both-requires-3
+both-requires-3 c κs = search needs
+
+returns-5 : tie.Need-returns-5
+unfolding every
+returns-5 c =
+    let many : 4 ≤ c .before .before .before .before .before .before .before .before .before .before .before .before .before .before .before .before .args .s .count =
+    omega (arith, c .before .before .before .before .before .before .before .before .before .before .before .before .before .if1 .left, c .before .before .before .before .before .before .before .before .before .before .before .if2 .left, c .before .before .before .before .before .before .if3 .left, c .before .before .if4 .left) in
+    both-of (c .both3 .ensures) (three-tested (c .before .before .before .before)) (c .before .may-take5 .ensures)
+    ∙ sym (fits-first _ _ 4 (omega arith) ∙ simp (and-true, and-assoc))
 
 pub fits-spec : {M : Type 1} → statement M
 fits-spec =
     tie.close
     (tie.spec
-    Inv-loop
-    μ-loop
     returns
     array-read-may-take
     may-take-requires
     returns-2
-    loop-holds
-    fits-at-requires
+    array-read-may-take-2
+    may-take-requires-2
+    array-read-may-take-3
+    may-take-requires-3
+    both-requires
     returns-3
-    add-x
-    loop-less
-    loop-again
-    returns-4)
+    array-read-may-take-4
+    may-take-requires-4
+    both-requires-2
+    returns-4
+    array-read-may-take-5
+    may-take-requires-5
+    both-requires-3
+    returns-5)
