@@ -2,10 +2,10 @@
 use mathlib.Core.Path.{_≡_, refl, sym, ap, _∙_}
 use mathlib.Core.Bool.{Bool, true, false, cond, not}
 use mathlib.Core.List.{List, [], _∷_, append-nil}
-use Prim.Native.Nat.{ℕ, _*_, _≤_, _<_}
+use Prim.Native.Nat.{ℕ, _+_, _*_, _≤_, _<_}
 use native.Mathlib.Omega.{arith}
-use lib.ListN.{length, set}
-use lib.Seq.{set-getD}
+use lib.ListN.{length, set, drop-of-length-le}
+use lib.Seq.{sets-eq, set-getD}
 use lib.Dec.{T as Holds, eqb}
 use borrow.Author.Tests.{lt-ltb, le-ltb}
 use Rattle.refusal.specs.declared.Refusal.{Refusal}
@@ -23,6 +23,7 @@ use Rattle.ends.specs.declared.State.the-variants.{Requesting, Waiting}
 use Rattle.call.specs.declared.Call.{Call}
 use Rattle.call.specs.declared.Command.{Command}
 use Rattle.call.specs.declared.Step.{Step}
+use Rattle.call.specs.declared.Answer as said
 use Rattle.call.specs.declared.Answer.the-variants.{Refused}
 use Rattle.call.specs.Protocol.{step, cleared, isFree, placed, quiet, nextUse}
 use Rattle.call.specs.History.{accepted}
@@ -32,11 +33,12 @@ use Rattle.placing.specs.declared.Placed.{Placed}
 use Rattle.placing.specs.Rows.{laterBy, laterFor, outcomeInBy, answerInBy, turned, placedInBy, rowAfterBy}
 use Rattle.placing.specs.Parts.{answerFor}
 use Rattle.placing.proofs.Settles.{routing-to, refusing-by, came-by, places, port-places, answers-placed-by, port-placed-by}
-use Rattle.callbytes.specs.Codec.{callBytes, callIn, callAt, Fits}
-use Rattle.callbytes.proofs.RoundTrip.{there-and-back}
+use Rattle.callbytes.specs.Codec.{callBytes, callIn, callAt, putAt, Fits}
+use Rattle.callbytes.proofs.RoundTrip.{call-length, there-and-back}
+use Rattle.recordbytes.specs.Steps.{steppedAt}
 use Rattle.rowbytes.specs.Rows.{recordsIn, rowIn, putIn, after, portCommanded, portAfter}
-use Rattle.rowbytes.specs.Parts.{settledBy, keptBy, portKeptBy}
-use Rattle.rowbytes.proofs.Rows.{row-length, record-in, row-stored, put-read}
+use Rattle.rowbytes.specs.Parts.{keptBy, portKeptBy}
+use Rattle.rowbytes.proofs.Rows.{row-length, record-in, port-record, row-stored, put-read, put-in}
 
 -- ---- a refusal keeps the record
 
@@ -49,14 +51,18 @@ step-kept c k e = refusedSame c k (not-true (accepted (step c k .answer)) e)
 
 -- ---- a command
 
+-- the record r is the one after a step that is accepted
+abbrev settledBy : List ℕ → ℕ → Step → List ℕ
+settledBy b r s = cond (accepted (s .answer)) (putIn b r (s .call)) b
+
 module _ (b : List ℕ) (r : ℕ) (k : Command) where
   abbrev s : Step
   s = step (recordAt (rowIn b) r) k
 
-  bytes-after : settledBy (s .answer) b r (s .call) ≡ after b r (put (rowIn b) r s)
+  bytes-after : settledBy b r s ≡ after b r (put (rowIn b) r s)
   bytes-after = ap (λ (x : List ℕ). cond (accepted (s .answer)) x b) (sym (put-read b r (s .call)))
 
-  row-after : Fits (s .call) → rowIn (settledBy (s .answer) b r (s .call)) ≡ set (rowIn b) r (s .call)
+  row-after : Fits (s .call) → rowIn (settledBy b r s) ≡ set (rowIn b) r (s .call)
   row-after f = by (accepted (s .answer)) refl
     where
       by : (t : Bool) → accepted (s .answer) ≡ t → rowIn (cond (accepted (s .answer)) (putIn b r (s .call)) b) ≡ set (rowIn b) r (s .call)
@@ -86,27 +92,24 @@ module _ (b : List ℕ) (r u : ℕ) (k : Command) where
           let free : isFree (recordAt (rowIn b) r) ≡ true = ap isFree (sym (record-in b r in-row)) ∙ e in
           refused-by NoSuchCall (rw (row-length b, le-ltb 1024 (recordsIn b) few, lt-ltb r (recordsIn b) in-row, free) refl)
 
-      module _ (taken : isFree (callAt b (102 * r)) ≡ false) {c : Call} (ec : c ≡ callAt b (102 * r)) where
+      module _ (taken : isFree (callAt b (102 * r)) ≡ false) {n : ℕ} (en : n ≡ recordAt (rowIn b) r .«use_number») where
         is-taken : isFree (recordAt (rowIn b) r) ≡ false
         is-taken = ap isFree (sym (record-in b r in-row)) ∙ taken
 
-        is-record : c ≡ recordAt (rowIn b) r
-        is-record = ec ∙ record-in b r in-row
-
-        pub other-use : eqb (c .«use_number») u ≡ false → (says (Refused NoSuchCall) ≡ t .reply) × (b ≡ after b r t) × (rowIn b ≡ t .row)
+        pub other-use : eqb n u ≡ false → (says (Refused NoSuchCall) ≡ t .reply) × (b ≡ after b r t) × (rowIn b ≡ t .row)
         other-use e =
-            let differs : eqb (recordAt (rowIn b) r .«use_number») u ≡ false = ap (λ (x : Call). eqb (x .«use_number») u) (sym is-record) ∙ e in
+            let differs : eqb (recordAt (rowIn b) r .«use_number») u ≡ false = ap (λ (x : ℕ). eqb x u) (sym en) ∙ e in
             refused-by NoSuchCall (rw (row-length b, le-ltb 1024 (recordsIn b) few, lt-ltb r (recordsIn b) in-row, is-taken, differs) refl)
 
-        pub stepped-in : eqb (c .«use_number») u ≡ true → {x : Step} {z : List ℕ} → x ≡ step c k → Fits (x .call) → z ≡ settledBy (x .answer) b r (x .call)
-            → (says (x .answer) ≡ t .reply) × (z ≡ after b r t) × (rowIn z ≡ t .row)
-        stepped-in e {x} {z} es f ez =
-            let same : eqb (recordAt (rowIn b) r .«use_number») u ≡ true = ap (λ (y : Call). eqb (y .«use_number») u) (sym is-record) ∙ e in
+        pub stepped-in : eqb n u ≡ true → {x : said.Answer} {z : List ℕ} → x ≡ step (callAt b (102 * r)) k .answer → z ≡ steppedAt b (102 * r) k → Fits (step (callAt b (102 * r)) k .call)
+            → (says x ≡ t .reply) × (z ≡ after b r t) × (rowIn z ≡ t .row)
+        stepped-in e {x} {z} ex ez f =
+            let same : eqb (recordAt (rowIn b) r .«use_number») u ≡ true = ap (λ (y : ℕ). eqb y u) (sym en) ∙ e in
             let so : t ≡ put (rowIn b) r (step (recordAt (rowIn b) r) k) = rw (row-length b, le-ltb 1024 (recordsIn b) few, lt-ltb r (recordsIn b) in-row, is-taken, same) refl in
-            let ex : x ≡ step (recordAt (rowIn b) r) k = es ∙ ap (λ (y : Call). step y k) is-record in
-            let fits : Fits (step (recordAt (rowIn b) r) k .call) = rw ex at f in
-            let settled : z ≡ settledBy (step (recordAt (rowIn b) r) k .answer) b r (step (recordAt (rowIn b) r) k .call) = ez ∙ ap (λ (y : Step). settledBy (y .answer) b r (y .call)) ex in (
-              ap (λ (y : Step). says (y .answer)) ex ∙ ap (λ (y : Turn). y .reply) (sym so),
+            let here : callAt b (102 * r) ≡ recordAt (rowIn b) r = record-in b r in-row in
+            let fits : Fits (step (recordAt (rowIn b) r) k .call) = rw here at f in
+            let settled : z ≡ settledBy b r (step (recordAt (rowIn b) r) k) = ez ∙ rw (here, put-in b r (step (recordAt (rowIn b) r) k .call) in-row) refl in (
+              ap says ex ∙ rw here (ap (λ (y : Turn). y .reply) (sym so)),
               settled ∙ bytes-after b r k ∙ ap (after b r) (sym so),
               ap rowIn settled ∙ row-after b r k fits ∙ ap (λ (y : Turn). y .row) (sym so),
             )
@@ -216,25 +219,27 @@ module _ (kept : Bool) (b : List ℕ) (p : Plan) (x : Setup) (n m : ℕ) {c : Ca
         ap callIn held-as ∙ port-call kept b p x n m,
       )
 
--- what the calls of `port_command` come to
-module _ (b : List ℕ) (k : Command) {c : Call} {s : Step} (ec : c ≡ callIn b) (es : s ≡ step c k) where
-  stepped : s ≡ step (callIn b) k
-  stepped = es ∙ rw ec refl
+-- what the call of `port_command` comes to
+module _ (b : List ℕ) (k : Command) (long : length b ≡ 102) where
+  abbrev after-step : Step
+  after-step = step (callIn b) k
 
-  pub port-accepted : {z : List ℕ} → Fits (s .call) → accepted (s .answer) ≡ true → z ≡ callBytes (s .call)
-      → (s .answer ≡ step (callIn b) k .answer) × (z ≡ portCommanded b k) × (callIn z ≡ step (callIn b) k .call)
-  port-accepted {z} f so ez =
-      let granted-so : accepted (step (callIn b) k .answer) ≡ true = ap (λ (x : Step). accepted (x .answer)) (sym stepped) ∙ so in (
-        ap (λ (x : Step). x .answer) stepped,
-        ez ∙ ap (λ (x : Step). callBytes (x .call)) stepped ∙ sym (ap (λ (t : Bool). cond t (callBytes (step (callIn b) k .call)) b) granted-so),
-        ap callIn ez ∙ comes-back (s .call) f ∙ ap (λ (x : Step). x .call) stepped,
-      )
+  stored-whole : (c : Call) → Fits c → putAt b 0 c ≡ callBytes c
+  unfolding putAt
+  stored-whole c f =
+      let bytes = call-length c f in
+      let fits : 0 + length (callBytes c) ≤ length b = omega arith in
+      let over : length b ≤ 0 + length (callBytes c) = omega arith in
+      rw long (sets-eq (callBytes c) b 0 fits ∙ rw (drop-of-length-le b over) (append-nil (callBytes c)))
 
-  pub port-refused : accepted (s .answer) ≡ false
-      → (s .answer ≡ step (callIn b) k .answer) × (b ≡ portCommanded b k) × (callIn b ≡ step (callIn b) k .call)
-  port-refused so =
-      let refused-so : accepted (step (callIn b) k .answer) ≡ false = ap (λ (x : Step). accepted (x .answer)) (sym stepped) ∙ so in (
-        ap (λ (x : Step). x .answer) stepped,
-        sym (ap (λ (t : Bool). cond t (callBytes (step (callIn b) k .call)) b) refused-so),
-        sym (step-kept (callIn b) k refused-so),
-      )
+  read-back : (t : Bool) → accepted (after-step .answer) ≡ t → Fits (after-step .call) → callIn (cond t (callBytes (after-step .call)) b) ≡ after-step .call
+  read-back true e f = comes-back (after-step .call) f
+  read-back false e f = sym (step-kept (callIn b) k e)
+
+  pub port-stepped : {x : said.Answer} {z : List ℕ} → x ≡ step (callAt b 0) k .answer → z ≡ steppedAt b 0 k → Fits (step (callAt b 0) k .call)
+      → (x ≡ after-step .answer) × (z ≡ portCommanded b k) × (callIn z ≡ after-step .call)
+  port-stepped {x} {z} ex ez f =
+      let here : callAt b 0 ≡ callIn b = port-record b long in
+      let fits : Fits (after-step .call) = rw here at f in
+      let settled : z ≡ portCommanded b k = ez ∙ rw here (ap (λ (y : List ℕ). cond (accepted (after-step .answer)) y b) (stored-whole (after-step .call) fits)) in
+      (ex ∙ rw here refl, settled, ap callIn settled ∙ read-back (accepted (after-step .answer)) refl fits)

@@ -3,7 +3,6 @@
 use call::Answer;
 use call::Call;
 use call::Command;
-use call::Step;
 use placing::Placed;
 use plan::Seen;
 use refusal::Refusal;
@@ -26,18 +25,9 @@ ghost use Rattle.call.specs.Row.{lowestFree, recordAt, says, command as by-comm
 ghost use Rattle.placing.specs.Rows.{outcomeInBy, placedInBy, rowAfterBy, turned};
 ghost use Rattle.callbytes.specs.Codec.{callIn, callAt};
 ghost use Rattle.rowbytes.specs.Rows.{recordsIn, rowIn, clearedIn, putIn, after, portCommanded, portAfter};
-ghost use Rattle.rowbytes.specs.Parts.{settledBy, portKeptBy};
+ghost use Rattle.rowbytes.specs.Parts.{portKeptBy};
 
 // ---- a record of the row
-
-// A record stored, where the row has it.
-fn put(row: &mut [u8], r: usize, c: Call)
-    ensures { λ _. ⌜ now (row .exit) ≡ putIn (now (row .entry)) r c ⌝ }
-{
-    if r < row.len() / 102 {
-        callbytes::put_at(row, 102 * r, c);
-    }
-}
 
 // Whether the record at a place within the row is free: as `callbytes::free_at`, without asking for each record of a long row whether its bytes are there.
 fn free_in(row: &[u8], at: usize) -> bool
@@ -81,19 +71,6 @@ pub fn clear(row: &mut [u8])
 
 // ---- commands
 
-// The record after an accepted step is stored.
-fn settle(row: &mut [u8], r: usize, s: Step)
-    ensures { λ _. ⌜ now (row .exit) ≡ settledBy (s .answer) (now (row .entry)) r (s .call) ⌝ }
-{
-    let answer = s.answer;
-    let c = s.call;
-    match answer {
-        Answer::Accepted => put(row, r, c),
-        Answer::Delivered(_) => put(row, r, c),
-        Answer::Refused(_) => {}
-    }
-}
-
 // A command for the record r and this use number.
 pub fn command(row: &mut [u8], r: usize, use_number: u16, k: Command) -> Answer
     ensures { λ z. ⌜ (says z ≡ turn (rowIn (now (row .entry))) (by-command r «use_number» k) .reply)
@@ -108,19 +85,13 @@ pub fn command(row: &mut [u8], r: usize, use_number: u16, k: Command) -> Answer
         return Answer::Refused(Refusal::NoSuchCall);
     }
     let at = 102 * r;
-    let free = callbytes::free_at(row, at);
-    if free {
+    if free_in(row, at) {
         return Answer::Refused(Refusal::NoSuchCall);
     }
-    let c = callbytes::call_at(row, at);
-    if c.use_number != use_number {
+    if use_at(row, r) != use_number {
         return Answer::Refused(Refusal::NoSuchCall);
     }
-    let s = c.step(k);
-    let next = s.call;
-    callbytes::held(next);
-    settle(row, r, s);
-    s.answer
+    recordbytes::command_at(row, at, k)
 }
 
 // ---- placing
@@ -221,17 +192,7 @@ pub fn port_command(port: &mut [u8; 102], k: Command) -> Answer
         × (now (port .exit) ≡ portCommanded (now (port .entry)) k)
         × (callIn (now (port .exit)) ≡ step (callIn (now (port .entry))) k .call) ⌝ }
 {
-    let c = port_in(*port);
-    let s = c.step(k);
-    let answer = s.answer;
-    let next = s.call;
-    callbytes::held(next);
-    match answer {
-        Answer::Accepted => *port = callbytes::call_bytes(next),
-        Answer::Delivered(_) => *port = callbytes::call_bytes(next),
-        Answer::Refused(_) => {}
-    }
-    answer
+    recordbytes::command_at(port, 0, k)
 }
 
 fn port_keep(port: &mut [u8; 102], a: routing::Answer, c: Call)

@@ -1,0 +1,36 @@
+-- `recordbytes::accept` meets its contract. Assumes nothing.
+use mathlib.Core.Path.{sym, ap, _∙_}
+use Rattle.ends.specs.declared.End.{End}
+use Rattle.ends.specs.Ends.{answers}
+use Rattle.ends.specs.declared.State.the-variants.{Linked}
+use Rattle.ends.specs.declared.Signal.the-variants.{Upack}
+use Rattle.call.specs.declared.Side.the-variants.{Callee}
+use Rattle.call.specs.Parts.{oneSent}
+use Rattle.call.proofs.Steps.{accepts}
+use Rattle.recordbytes.specs.Parts.{recordFrom}
+use Rattle.recordbytes.proofs.Steps.{given-as}
+use borrow.Author.Needs.{needs}
+use Rattle.recordbytes.proofs.accept.Statement.{statement}
+use Rattle.recordbytes.proofs.accept.Tie as tie
+
+end-at-requires : tie.Need-end-at-requires
+end-at-requires c κs = search needs
+
+answer-requires : tie.Need-answer-requires
+answer-requires c κs = search needs
+
+one-sent-requires : tie.Need-one-sent-requires
+one-sent-requires c κs = search needs
+
+same-length : tie.Need-same-length
+same-length c = search needs
+
+returns : tie.Need-returns
+returns c =
+    let a = c .before .before .before .before .before .before .before .before .args in
+    let d = recordFrom (a .row .now) (a .at) in
+    given-as (a .row .now) (a .at) (accepts d ∙ sym (ap (λ v. oneSent d Callee v Upack) (c .before .before .before .before .answer .ensures ∙ ap (λ (e : End). answers (e .state) Linked) (c .before .before .before .before .before .end-at .ensures)))) (c .before .before .one-sent .ensures)
+
+pub accept-spec : {M : Type 1} → statement M
+accept-spec =
+    tie.close (tie.spec end-at-requires answer-requires one-sent-requires same-length returns)

@@ -1,0 +1,35 @@
+-- `recordbytes::busy` meets its contract. Assumes nothing.
+use mathlib.Core.Path.{sym, ap, _∙_}
+use Rattle.ends.specs.declared.End.{End}
+use Rattle.ends.specs.Ends.{answers}
+use Rattle.ends.specs.declared.State.the-variants.{Unlinking}
+use Rattle.ends.specs.declared.Status.the-variants.{Unavail}
+use Rattle.call.specs.Parts.{threeSent}
+use Rattle.call.proofs.Steps.{is-busy}
+use Rattle.recordbytes.specs.Parts.{recordFrom}
+use Rattle.recordbytes.proofs.Steps.{given-as}
+use borrow.Author.Needs.{needs}
+use Rattle.recordbytes.proofs.busy.Statement.{statement}
+use Rattle.recordbytes.proofs.busy.Tie as tie
+
+end-at-requires : tie.Need-end-at-requires
+end-at-requires c κs = search needs
+
+answer-requires : tie.Need-answer-requires
+answer-requires c κs = search needs
+
+three-sent-requires : tie.Need-three-sent-requires
+three-sent-requires c κs = search needs
+
+same-length : tie.Need-same-length
+same-length c = search needs
+
+returns : tie.Need-returns
+returns c =
+    let a = c .before .before .before .before .before .before .before .before .args in
+    let d = recordFrom (a .row .now) (a .at) in
+    given-as (a .row .now) (a .at) (is-busy d ∙ sym (ap (λ v. threeSent d v Unavail) (c .before .before .before .before .answer .ensures ∙ ap (λ (e : End). answers (e .state) Unlinking) (c .before .before .before .before .before .end-at .ensures)))) (c .before .before .three-sent .ensures)
+
+pub busy-spec : {M : Type 1} → statement M
+busy-spec =
+    tie.close (tie.spec end-at-requires answer-requires three-sent-requires same-length returns)

@@ -1,0 +1,70 @@
+-- `recordbytes::one_sent` meets its contract. Assumes nothing.
+use native.Mathlib.Omega.{arith}
+use Rattle.recordbytes.proofs.Steps.{from-kept, from-count, one-more, one-refused, one-over}
+use borrow.Author.Needs.{needs}
+use Rattle.recordbytes.proofs.one_sent.Statement.{statement}
+use Rattle.recordbytes.proofs.one_sent.Tie as tie
+
+enum-known-v : tie.Need-enum-known-v
+enum-known-v c = search needs
+
+enum-known-v-2 : tie.Need-enum-known-v-2
+enum-known-v-2 c = search needs
+
+queue-from-requires : tie.Need-queue-from-requires
+queue-from-requires c κs = search needs
+
+add-q : tie.Need-add-q
+add-q c = search needs
+
+slice-read-if1 : tie.Need-slice-read-if1
+slice-read-if1 c = search needs
+
+returns : tie.Need-returns
+returns c =
+    let a = c .before .before .before .before .before .before .before .args in
+    let room = c .before .before .before .before .before .before .before .pre in
+    one-over (a .row .now) (a .at) room (a .s) (a .x) (c .before .before .before .before .v2 .given .1) (c .before .before .queue-from .ensures .0) (c .if1 .taken)
+
+settle-requires : tie.Need-settle-requires
+settle-requires c κs = search needs
+
+push-requires : tie.Need-push-requires
+push-requires c κs =
+    let a = c .before .before .before .before .before .before .before .before .before .before .before .before .args in
+    let room = c .before .before .before .before .before .before .before .before .before .before .before .before .pre in
+    let q = c .before .before .before .before .before .before .before .queue-from .ensures .0 in
+    let kept = from-kept (a .row .now) (a .at) room (a .s) _ (c .before .before .before .settle .ensures) q in
+    let count = from-count (a .row .now) (a .at) room (a .s) q in
+    omega (arith, c .before .before .before .before .before .if1 .left, c .before .before .before .settle .kept .0, c .before .before .before .before .before .before .before .queue-from .ensures .1)
+
+returns-2 : tie.Need-returns-2
+returns-2 c =
+    let a = c .before .before .before .before .args in
+    let room = c .before .before .before .before .pre in
+    one-refused (a .row .now) (a .at) room (a .s) (a .x) (c .before .v .given .1)
+
+same-length : tie.Need-same-length
+same-length c = search needs
+
+returns-3 : tie.Need-returns-3
+returns-3 c =
+    let a = c .before .before .before .before .before .before .before .before .before .before .before .before .before .before .before .args in
+    let room = c .before .before .before .before .before .before .before .before .before .before .before .before .before .before .before .pre in
+    one-more (a .row .now) (a .at) room (a .s) _ (c .before .before .before .before .before .before .settle .ensures) (a .x) (c .before .before .before .before .before .before .before .before .before .before .before .before .v2 .given .1) (c .before .before .before .before .before .before .before .before .before .before .queue-from .ensures .0) (c .before .before .before .before .before .before .before .before .if1 .left) (c .before .before .push .ensures)
+
+pub one-sent-spec : {M : Type 1} → statement M
+one-sent-spec =
+    tie.close
+    (tie.spec
+    enum-known-v
+    enum-known-v-2
+    queue-from-requires
+    add-q
+    slice-read-if1
+    returns
+    settle-requires
+    push-requires
+    returns-2
+    same-length
+    returns-3)

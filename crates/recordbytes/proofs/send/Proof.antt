@@ -1,0 +1,53 @@
+-- `recordbytes::send` meets its contract. Assumes nothing.
+use mathlib.Core.Path.{sym, ap, ap₂, _∙_}
+use Rattle.ends.specs.declared.End.{End}
+use Prim.Native.Nat.{ℕ}
+use Rattle.ends.specs.Ends.{speaks}
+use Rattle.ends.specs.declared.Signal.the-variants.{Ordinary}
+use Rattle.call.specs.Parts.{oneSent}
+use Rattle.call.proofs.Steps.{sends-one}
+use Rattle.recordbytes.specs.Parts.{recordFrom}
+use Rattle.recordbytes.proofs.Steps.{given-as, from-count}
+use borrow.Author.Needs.{needs}
+use Rattle.recordbytes.proofs.send.Statement.{statement}
+use Rattle.recordbytes.proofs.send.Tie as tie
+
+queue-from-requires : tie.Need-queue-from-requires
+queue-from-requires c κs = search needs
+
+add-q : tie.Need-add-q
+add-q c = search needs
+
+slice-read-waiting : tie.Need-slice-read-waiting
+slice-read-waiting c = search needs
+
+end-at-requires : tie.Need-end-at-requires
+end-at-requires c κs = search needs
+
+speak-requires : tie.Need-speak-requires
+speak-requires c κs = search needs
+
+one-sent-requires : tie.Need-one-sent-requires
+one-sent-requires c κs = search needs
+
+same-length : tie.Need-same-length
+same-length c = search needs
+
+returns : tie.Need-returns
+returns c =
+    let a = c .before .before .before .before .before .before .before .before .before .before .args in
+    let d = recordFrom (a .row .now) (a .at) in
+    given-as (a .row .now) (a .at) (sends-one d (a .s) (a .tunnel) (a .status) ∙ sym (ap (λ v. oneSent d (a .s) v (Ordinary (a .tunnel) (a .status))) (c .before .before .before .before .speak .ensures ∙ ap₂ (λ (e : End) (n : ℕ). speaks (e .state) (a .tunnel) (a .status) n) (c .before .before .before .before .before .end-at .ensures) (from-count (a .row .now) (a .at) (c .before .before .before .before .before .before .before .before .before .before .pre) (a .s) (c .before .before .before .before .before .before .before .before .queue-from .ensures .0))))) (c .before .before .one-sent .ensures)
+
+pub send-spec : {M : Type 1} → statement M
+send-spec =
+    tie.close
+    (tie.spec
+    queue-from-requires
+    add-q
+    slice-read-waiting
+    end-at-requires
+    speak-requires
+    one-sent-requires
+    same-length
+    returns)
