@@ -54,8 +54,8 @@ pub place-exact : (κs : Lfts 3) (kept : Bool) (row : RefT (List ℕ)) (v : Seen
     → (plan : Plan) → seen plan (x .source) (target1 x) ≡ v
     → (r ≡ s) × (end .1 .0 .now ≡ end′ .1 .0 .now) × (end .1 .1 .1 .1 .0 .now ≡ end′ .1 .1 .1 .1 .0 .now) × (end .1 .1 .1 .1 .1 .0 .now ≡ end′ .1 .1 .1 .1 .1 .0 .now)
 place-exact κs kept row v x sources targets end end′ r s p q plan shows =
-    let of-p = p plan shows in
-    let of-q = q plan shows in
+    let of-p = p .0 plan shows in
+    let of-q = q .0 plan shows in
     (of-p .0 ∙ sym (of-q .0), of-p .1 ∙ sym (of-q .1), of-p .3 ∙ sym (of-q .3), of-p .4 ∙ sym (of-q .4))
 
 pub port-command-exact : (κs : Lfts 1) (port : RefT (List ℕ)) (k : Command) (end end′ : AtExit (endedOf 1 port-command-kinds.ps port-command-kinds.r) κs) (r s : Answer)
@@ -67,6 +67,6 @@ pub port-place-exact : (κs : Lfts 3) (kept : Bool) (port : RefT (List ℕ)) (v 
     → (plan : Plan) → seen plan (x .source) (target1 x) ≡ v
     → (r ≡ s) × (end .1 .0 .now ≡ end′ .1 .0 .now) × (end .1 .1 .1 .1 .0 .now ≡ end′ .1 .1 .1 .1 .0 .now) × (end .1 .1 .1 .1 .1 .0 .now ≡ end′ .1 .1 .1 .1 .1 .0 .now)
 port-place-exact κs kept port v x sources targets end end′ r s p q plan shows =
-    let of-p = p plan shows in
-    let of-q = q plan shows in
+    let of-p = p .0 plan shows in
+    let of-q = q .0 plan shows in
     (of-p .0 ∙ sym (of-q .0), of-p .1 ∙ sym (of-q .1), of-p .3 ∙ sym (of-q .3), of-p .4 ∙ sym (of-q .4))

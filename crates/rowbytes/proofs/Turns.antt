@@ -31,7 +31,8 @@ use Rattle.call.specs.Row.{Turn, says, command, recordAt, lowestFree, refuses, 
 use Rattle.teardown.proofs.Theorem.{refusedSame}
 use Rattle.placing.specs.declared.Placed.{Placed}
 use Rattle.placing.specs.Rows.{laterBy, laterFor, outcomeInBy, answerInBy, turned, placedInBy, rowAfterBy}
-use Rattle.placing.specs.Parts.{answerFor}
+use Rattle.routing.specs.Places.{isRouted}
+use Rattle.placing.specs.Parts.{answerFor, answerBy as answered}
 use Rattle.placing.proofs.Settles.{routing-to, refusing-by, came-by, places, port-places, answers-placed-by, port-placed-by}
 use Rattle.callbytes.specs.Codec.{callBytes, callIn, callAt, putAt, Fits}
 use Rattle.callbytes.proofs.RoundTrip.{call-length, there-and-back}
@@ -243,3 +244,17 @@ module _ (b : List ℕ) (k : Command) (long : length b ≡ 102) where
       let fits : Fits (after-step .call) = rw here at f in
       let settled : z ≡ portCommanded b k = ez ∙ rw here (ap (λ (y : List ℕ). cond (accepted (after-step .answer)) y b) (stored-whole (after-step .call) fits)) in
       (ex ∙ rw here refl, settled, ap callIn settled ∙ read-back (accepted (after-step .answer)) refl fits)
+
+-- ---- a refusal, whatever is shown
+
+-- what a placing answers has what routing gave in it
+pub answer-routed : (a : Answer) (r : ℕ) (c : Call) {z : Placed} → z ≡ answerFor a r c → z .routed ≡ a
+answer-routed a r c e = ap (λ (y : Placed). y .routed) e ∙ by (a .outcome)
+  where
+    by : (o : Outcome) → answered o a r c .routed ≡ a
+    by (outcome.Routed x) = refl
+    by (outcome.Refused x) = refl
+
+pub port-unchanged : (o : Outcome) (b : List ℕ) (c : Call) → isRouted o ≡ false → portKeptBy o b c ≡ b
+port-unchanged (outcome.Routed x) b c e = let z : _≡_ {A = ℕ} 0 1 = cc in absurd (omega arith)
+port-unchanged (outcome.Refused x) b c e = refl

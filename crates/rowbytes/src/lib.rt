@@ -18,6 +18,7 @@ ghost use Rattle.plan.specs.declared.Plan.{Plan};
 ghost use Rattle.plan.specs.Find.{seen};
 ghost use Rattle.routing.specs.Steps.{target1};
 ghost use Rattle.routing.specs.Routing.{sourceList, targetList};
+ghost use Rattle.routing.specs.Places.{KeptBeside};
 ghost use Rattle.ends.specs.declared.State.the-variants.{Requesting, Waiting};
 ghost use Rattle.call.specs.Protocol.{isFree, step, cleared, quiet};
 ghost use Rattle.call.specs.History.{accepted};
@@ -139,7 +140,8 @@ fn put_placed(row: &mut [u8], r: usize, use_number: u16)
     }
 }
 
-// A call is placed in the row's lowest free record, by what a plan shows of the setup's source and of its target after step 1, and by a verdict on the plan: `kept` says whether it is sound.
+// A call is placed in the row's lowest free record, by what a plan shows of the setup's source and of its target after step 1, and by a verdict on the plan: `kept` says whether it is sound. Of what
+// no plan shows it is only promised that a refusal leaves the row and both lists as they were.
 pub fn place(
     kept: bool,
     row: &mut [u8],
@@ -154,6 +156,7 @@ pub fn place(
         × (rowIn (now (row .exit)) ≡ rowAfterBy kept (rowIn (now (row .entry))) p out (length (now («source_list» .entry))) (length (now («target_list» .entry))))
         × (now («source_list» .exit) ≡ sourceList p out (outcomeInBy kept (rowIn (now (row .entry))) p out (length (now («source_list» .entry))) (length (now («target_list» .entry)))) (now («source_list» .entry)))
         × (now («target_list» .exit) ≡ targetList p out (outcomeInBy kept (rowIn (now (row .entry))) p out (length (now («source_list» .entry))) (length (now («target_list» .entry)))) (now («target_list» .entry)))) ⌝ }
+    ensures unchanged { λ z. ⌜ KeptBeside (z .routed .outcome) (now (row .entry)) (now (row .exit)) × KeptBeside (z .routed .outcome) (now («source_list» .entry)) (now («source_list» .exit)) × KeptBeside (z .routed .outcome) (now («target_list» .entry)) (now («target_list» .exit)) ⌝ }
 {
     let n = row.len() / 102;
     let r = lowest_free(row);
@@ -205,7 +208,7 @@ fn port_keep(port: &mut [u8; 102], a: routing::Answer, c: Call)
     }
 }
 
-// A call is placed in the port's record, as in a row of one, by what a plan shows and a verdict on it.
+// A call is placed in the port's record, as in a row of one, by what a plan shows and a verdict on it; of what no plan shows as in a row.
 pub fn port_place(
     kept: bool,
     port: &mut [u8; 102],
@@ -220,6 +223,7 @@ pub fn port_place(
         × (callIn (now (port .exit)) ≡ recordAt (rowAfterBy kept (callIn (now (port .entry)) ∷ []) p out (length (now («source_list» .entry))) (length (now («target_list» .entry)))) 0)
         × (now («source_list» .exit) ≡ sourceList p out (outcomeInBy kept (callIn (now (port .entry)) ∷ []) p out (length (now («source_list» .entry))) (length (now («target_list» .entry)))) (now («source_list» .entry)))
         × (now («target_list» .exit) ≡ targetList p out (outcomeInBy kept (callIn (now (port .entry)) ∷ []) p out (length (now («source_list» .entry))) (length (now («target_list» .entry)))) (now («target_list» .entry)))) ⌝ }
+    ensures unchanged { λ z. ⌜ KeptBeside (z .routed .outcome) (now (port .entry)) (now (port .exit)) × KeptBeside (z .routed .outcome) (now («source_list» .entry)) (now («source_list» .exit)) × KeptBeside (z .routed .outcome) (now («target_list» .entry)) (now («target_list» .exit)) ⌝ }
 {
     let c = port_in(*port);
     let later = placing::port_later(c);
