@@ -88,9 +88,8 @@ fn maker_of(kind: u8, of_type: u8, address: u32) -> Maker
 pub extern "C" fn dfc_check(file: &[u8]) -> Answer
     ensures { λ r. ⌜ r ≡ checked (now (file .entry)) ⌝ }
 {
-    let sight = planback::scan(file, 0, 0);
-    let verdict = sight.answer;
-    match verdict {
+    let answer = planread::verdict(file);
+    match answer {
         Verdict::Sound => accepted(0),
         Verdict::Refused(r) => refused(r),
     }

@@ -1,12 +1,12 @@
 -- `dfc::dfc_check` meets its contract. Assumes nothing.
+use mathlib.Core.Path.{sym, _∙_}
 use Rattle.dfc.specs.Files.{checked}
-use Rattle.dfc.proofs.Sights.{sight-answer}
 use borrow.Author.Needs.{needs}
 use Rattle.dfc.proofs.dfc_check.Statement.{statement}
 use Rattle.dfc.proofs.dfc_check.Tie as tie
 
-scan-requires : tie.Need-scan-requires
-scan-requires c κs = search needs
+verdict-requires : tie.Need-verdict-requires
+verdict-requires c κs = search needs
 
 enum-told : tie.Need-enum-told
 enum-told c = search needs
@@ -14,28 +14,28 @@ enum-told c = search needs
 accepted-requires : tie.Need-accepted-requires
 accepted-requires c κs = search needs
 
-enum-known-verdict : tie.Need-enum-known-verdict
-enum-known-verdict c = search needs
+enum-known-answer : tie.Need-enum-known-answer
+enum-known-answer c = search needs
 
 refused-requires : tie.Need-refused-requires
 refused-requires c κs = search needs
 
 returns : tie.Need-returns
 unfolding checked
-returns c = let e = sight-answer (c .before .before .before .before .before .args .file .now) 0 0 (c .before .before .before .scan .ensures .0) (c .before .enum-told .given .1) in rw e (c .accepted .ensures)
+returns c = rw (sym (c .before .before .before .verdict .ensures .0) ∙ c .before .enum-told .given .1) (c .accepted .ensures)
 
 returns-2 : tie.Need-returns-2
 unfolding checked
-returns-2 c = let e = sight-answer (c .before .before .before .before .before .before .args .file .now) 0 0 (c .before .before .before .before .scan .ensures .0) (c .before .before .verdict .given .1) in rw e (c .refused .ensures)
+returns-2 c = rw (sym (c .before .before .before .before .verdict .ensures .0) ∙ c .before .before .answer .given .1) (c .refused .ensures)
 
 pub dfc-check-spec : {M : Type 1} → statement M
 dfc-check-spec =
     tie.close
     (tie.spec
-    scan-requires
+    verdict-requires
     enum-told
     accepted-requires
-    enum-known-verdict
+    enum-known-answer
     refused-requires
     returns
     returns-2)
