@@ -1,6 +1,5 @@
 -- Any two results that a contract of this crate allows are equal: read off the contracts themselves, as the functions in src/ state them. Assumes nothing.
 use mathlib.Core.Path.{_≡_, sym, _∙_}
-use mathlib.Core.Bool.{Bool}
 use mathlib.Core.List.{List}
 use Prim.Native.Nat.{ℕ}
 use contract.Lifetimes.{Lfts}
@@ -11,10 +10,6 @@ use Rattle.call.specs.declared.Call.{Call}
 use Rattle.callbytes.proofs.call_bytes.Reads as call-bytes
 use Rattle.callbytes.proofs.call_at.Reads as call-at
 use Rattle.callbytes.proofs.call_at.Kinds as call-at-kinds
-use Rattle.callbytes.proofs.free_at.Reads as free-at
-use Rattle.callbytes.proofs.free_at.Kinds as free-at-kinds
-use Rattle.callbytes.proofs.put_at.Reads as put-at
-use Rattle.callbytes.proofs.put_at.Kinds as put-at-kinds
 
 pub call-bytes-exact : (c : Call) (r s : List ℕ) → call-bytes.Post tt (c, tt) r (c, tt) → call-bytes.Post tt (c, tt) s (c, tt) → r ≡ s
 call-bytes-exact c r s p q = p ∙ sym q
@@ -22,11 +17,3 @@ call-bytes-exact c r s p q = p ∙ sym q
 pub call-at-exact : (κs : Lfts 1) (b : RefT (List ℕ)) (at : ℕ) (end end′ : AtExit (endedOf 1 call-at-kinds.ps call-at-kinds.r) κs) (r s : Call)
     → call-at.Post κs (b, (at, tt)) r end → call-at.Post κs (b, (at, tt)) s end′ → r ≡ s
 call-at-exact κs b at end end′ r s p q = p ∙ sym q
-
-pub free-at-exact : (κs : Lfts 1) (b : RefT (List ℕ)) (at : ℕ) (end end′ : AtExit (endedOf 1 free-at-kinds.ps free-at-kinds.r) κs) (r s : Bool)
-    → free-at.Post κs (b, (at, tt)) r end → free-at.Post κs (b, (at, tt)) s end′ → r ≡ s
-free-at-exact κs b at end end′ r s p q = p ∙ sym q
-
-pub put-at-exact : (κs : Lfts 1) (room : RefT (List ℕ)) (at : ℕ) (c : Call) (end end′ : AtExit (endedOf 1 put-at-kinds.ps put-at-kinds.r) κs) (r s : Unit)
-    → put-at.Post κs (room, (at, (c, tt))) r end → put-at.Post κs (room, (at, (c, tt))) s end′ → end .0 .now ≡ end′ .0 .now
-put-at-exact κs room at c end end′ r s p q = p ∙ sym q

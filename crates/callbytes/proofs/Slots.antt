@@ -2,7 +2,6 @@
 use mathlib.Core.Path.{_≡_, refl, ap, _∙_}
 use mathlib.Core.Bool.{Bool, true, false, cond, _&&_}
 use mathlib.Core.List.{List, [], _∷_, _++_, append-nil}
-use Rattle.call.specs.declared.Call.{Call}
 use Prim.Native.Nat.{ℕ, zero, suc, _+_, _*_, _-_, _≤_, _<_}
 use native.Mathlib.Nat.{le-of-suc-le-suc, not-suc-le-zero}
 use native.Mathlib.Numerals.{add-one}
@@ -15,7 +14,7 @@ use Rattle.ends.specs.declared.State.the-variants.{Idle, Requesting, Waiting, L
 use Rattle.planbytes.specs.Numbers as Numbers
 use Rattle.call.specs.Protocol.{slot, blank, cleared, isIdle, isFree}
 use Rattle.signalbytes.specs.Numbers.{stateSaid}
-use Rattle.callbytes.specs.Codec.{slotBytes, slotsBytes, slotAt, slotsFrom, callIn, callAt, putAt}
+use Rattle.callbytes.specs.Codec.{slotBytes, slotsBytes, slotAt, slotsFrom, callIn, callAt}
 use Rattle.planwrite.proofs.Puts.{sets-append, puts-then}
 use Rattle.zone.proofs.Held.{stores-pad}
 
@@ -105,12 +104,6 @@ built hd xs ys n {a} {b} {c} {d} lh lx ly pa pb pc pd =
 pub past-end : (b : List ℕ) (at : ℕ) → length b < at → callAt b at ≡ cleared
 unfolding callAt
 past-end b at h =
-    let none : length b - at ≡ 0 = omega arith in
-    rw none refl
-
-pub put-past-end : (b : List ℕ) (at : ℕ) (c : Call) → length b < at → putAt b at c ≡ b
-unfolding putAt
-put-past-end b at c h =
     let none : length b - at ≡ 0 = omega arith in
     rw none refl
 

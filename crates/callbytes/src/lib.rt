@@ -5,9 +5,9 @@ ghost use Prim.Native.Nat.{_+_, _*_, _≤_, _<_};
 ghost use lib.ListN.{length, take, drop};
 ghost use lib.Seq.{sets};
 ghost use Rattle.planbytes.specs.Numbers.{high, number};
-ghost use Rattle.call.specs.Protocol.{isFree, cleared};
+ghost use Rattle.call.specs.Protocol.{cleared};
 ghost use Rattle.callbytes.specs.Parts.{Blank, speaks, someNumber};
-ghost use Rattle.callbytes.specs.Codec.{slotBytes, slotsBytes, callBytes, slotAt, slotsFrom, callIn, callAt, putAt, Fits};
+ghost use Rattle.callbytes.specs.Codec.{slotBytes, slotsBytes, callBytes, slotAt, slotsFrom, callIn, callAt};
 use call::Call;
 use call::Queue;
 use call::Slot;
@@ -212,70 +212,4 @@ pub fn call_at(b: &[u8], at: usize) -> Call
         return cleared();
     }
     read_from(b, at)
-}
-
-// Whether the record of the 102 bytes from a place on is free, by its two states alone.
-pub fn free_at(b: &[u8], at: usize) -> bool
-    ensures { λ r. ⌜ r ≡ isFree (callAt (now (b .entry)) at) ⌝ }
-{
-    if b.len() < at {
-        return true;
-    }
-    if b.len() - at < 102 {
-        return true;
-    }
-    if b[at] != 0 {
-        return false;
-    }
-    b[at + 1] == 0
-}
-
-// ---- a record stored
-
-fn store(room: &mut [u8], at: usize, bytes: &[u8])
-    requires { ⌜ at + length (now bytes) ≤ length (now room) ⌝ }
-    ensures { λ r. ⌜ now (room .exit) ≡ sets (now (room .entry)) at (now (bytes .entry)) ⌝ }
-{
-    let mut i: usize = 0;
-    while i < bytes.len() {
-        room[at + i] = bytes[i];
-        i += 1;
-    }
-}
-
-// The record's 102 bytes from a place on; nothing where there is no room for them.
-pub fn put_at(room: &mut [u8], at: usize, c: Call)
-    ensures { λ r. ⌜ now (room .exit) ≡ putAt (now (room .entry)) at c ⌝ }
-{
-    if room.len() < at {
-        return;
-    }
-    if room.len() - at < 102 {
-        return;
-    }
-    let bytes = call_bytes(c);
-    store(room, at, &bytes);
-}
-
-// ---- any record that a program holds
-
-fn sixteen(slots: [Slot; 16])
-    ensures { λ r. ⌜ length slots ≡ 16 ⌝ }
-{}
-
-fn short(n: u16)
-    ensures { λ r. ⌜ n < 65536 ⌝ }
-{}
-
-// Its numbers fit their fields, so that it comes back from its bytes.
-pub fn held(c: Call)
-    ensures { λ r. ⌜ Fits c ⌝ }
-{
-    let to_caller = c.to_caller;
-    let to_callee = c.to_callee;
-    let waiting = to_caller.slots;
-    let coming = to_callee.slots;
-    sixteen(waiting);
-    sixteen(coming);
-    short(c.use_number);
 }

@@ -1,15 +1,15 @@
 -- A record's bytes among others: its head, and its two queues, each of which is changed where it stands. Assumes nothing.
-use mathlib.Core.Path.{_≡_, refl, sym, ap, ap₂, _∙_}
+use mathlib.Core.Path.{_≡_, refl, sym, ap, _∙_}
 use mathlib.Core.List.{List, [], _∷_, _++_, append-assoc, append-nil}
 use Prim.Native.Nat.{ℕ, zero, suc, _+_, _*_, _-_, _≤_, _<_}
 use native.Mathlib.Nat.{le-of-suc-le-suc, not-suc-le-zero}
 use native.Mathlib.Omega.{arith}
 use lib.ListN.{length, getD, set, take, drop, length-append, length-set, length-drop, drop-of-length-le}
-use lib.Seq.{sets, sets-eq, length-sets, length-take-le, drop-cons, set-append-left, getD-at, set-at, take-at, drop-at, drop-append-add, drop-append-le}
+use lib.Seq.{sets, sets-eq, length-take-le, drop-cons, set-append-left, getD-at, set-at, take-at, drop-append-add, drop-append-le}
 use Rattle.planbytes.specs.Numbers.{high}
 use Rattle.ends.specs.declared.End.{End}
 use Rattle.ends.specs.declared.Signal.{Signal}
-use Rattle.signalbytes.specs.Numbers.{stateNumber, signalNumber, signalTunnel, signalCode}
+use Rattle.signalbytes.specs.Numbers.{stateNumber}
 use Rattle.call.specs.declared.Slot.{Slot}
 use Rattle.call.specs.declared.Queue.{Queue}
 use Rattle.call.specs.declared.Call.{Call}

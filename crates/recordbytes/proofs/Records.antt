@@ -3,16 +3,14 @@ use mathlib.Core.Path.{_≡_, refl, sym, ap, _∙_}
 use mathlib.Core.List.{List, [], _∷_, _++_}
 use Prim.Native.Nat.{ℕ, zero, suc, _+_, _*_, _/_, _%_, _≤_, _<_}
 use native.Mathlib.Omega.{arith}
-use lib.ListN.{length, getD, set, take, drop, length-append, length-drop}
+use lib.ListN.{length, getD, set, drop, length-append, length-drop}
 use lib.Seq.{sets, getD-drop, getD-set-other, set-getD}
-use Rattle.planbytes.specs.Numbers.{high, number}
+use Rattle.planbytes.specs.Numbers.{high}
 use Rattle.planbytes.proofs.Numbers.{two-at}
 use Rattle.planwrite.proofs.Puts.{puts-then}
 use Rattle.ends.specs.declared.End.{End}
-use Rattle.ends.specs.declared.Signal.{Signal}
 use Rattle.signalbytes.specs.Numbers.{stateNumber, stateSaid, signalSaid}
 use Rattle.call.specs.declared.Slot.{Slot}
-use Rattle.call.specs.declared.Call.{Call}
 use Rattle.call.specs.declared.Side.{Side}
 use Rattle.call.specs.declared.Side.the-variants.{Caller, Callee}
 use Rattle.call.specs.Protocol.{endOf, queueTo, slot}

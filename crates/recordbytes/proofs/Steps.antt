@@ -1,10 +1,9 @@
 -- That what the code makes of a record's bytes is the record's step. Assumes nothing.
 use mathlib.Core.Path.{_≡_, refl, sym, ap, _∙_}
-use mathlib.Core.Bool.{Bool, true, false, cond}
-use mathlib.Core.List.{List, [], _∷_, _++_}
+use mathlib.Core.Bool.{Bool, false, cond}
+use mathlib.Core.List.{List, [], _∷_}
 use Prim.Native.Nat.{ℕ, _+_, _*_, _-_, _≤_, _<_}
 use native.Mathlib.Omega.{arith}
-use lib.Dec.{leb}
 use lib.ListN.{length, getD, length-set}
 use lib.Seq.{sets, getD-set-same, lt-length-sets}
 use borrow.Author.Tests.{lt-ltb, le-ltb, lt-leb, le-leb}

@@ -30,7 +30,7 @@ ghost use Rattle.rowbytes.specs.Parts.{portKeptBy};
 
 // ---- a record of the row
 
-// Whether the record at a place within the row is free: as `callbytes::free_at`, without asking for each record of a long row whether its bytes are there.
+// Whether the record at a place within the row is free, by its two states alone.
 fn free_in(row: &[u8], at: usize) -> bool
     requires { ⌜ at + 102 ≤ length (now row) ⌝ }
     ensures { λ r. ⌜ r ≡ isFree (callAt (now (row .entry)) at) ⌝ }

@@ -1,6 +1,5 @@
 -- `recordbytes::code_kept` meets its contract. Assumes nothing.
 use Rattle.recordbytes.proofs.Kept.{no-code, code-same}
-use borrow.Author.Needs.{needs}
 use Rattle.recordbytes.proofs.code_kept.Statement.{statement}
 use Rattle.recordbytes.proofs.code_kept.Tie as tie
 

@@ -1,5 +1,5 @@
 -- `recordbytes::command_at` meets its contract. Assumes nothing.
-use Prim.Native.Nat.{_+_, _-_, _≤_, _<_}
+use Prim.Native.Nat.{_+_, _≤_}
 use lib.ListN.{length}
 use native.Mathlib.Omega.{arith}
 use Rattle.recordbytes.proofs.Records.{fits-from}

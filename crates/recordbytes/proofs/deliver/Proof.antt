@@ -1,7 +1,6 @@
 -- `recordbytes::deliver` meets its contract. Assumes nothing.
 use mathlib.Core.Path.{_≡_, sym, ap, ap₂, _∙_}
 use Prim.Native.Nat.{_<_}
-use native.Mathlib.Omega.{arith}
 use Rattle.ends.specs.declared.End.{End}
 use Rattle.ends.specs.declared.Signal.{Signal}
 use Rattle.ends.specs.declared.Verdict.the-variants.{Refuse, Become}

@@ -1,6 +1,5 @@
 -- `recordbytes::kind_kept` meets its contract. Assumes nothing.
 use Rattle.recordbytes.proofs.Kept.{kind-same, kind-last}
-use borrow.Author.Needs.{needs}
 use Rattle.recordbytes.proofs.kind_kept.Statement.{statement}
 use Rattle.recordbytes.proofs.kind_kept.Tie as tie
 

@@ -1,7 +1,4 @@
 -- `recordbytes::settle` meets its contract. Assumes nothing.
-use mathlib.Core.Path.{ap, ap₂, _∙_}
-use native.Mathlib.Omega.{arith}
-use lib.ListN.{length-set}
 use Rattle.recordbytes.proofs.Among.{end-in}
 use Rattle.recordbytes.proofs.Records.{places-from}
 use Rattle.recordbytes.specs.Parts.{recordFrom}

@@ -1,6 +1,5 @@
 -- `recordbytes::state_kept` meets its contract. Assumes nothing.
 use Rattle.recordbytes.proofs.Kept.{state-same, state-last}
-use borrow.Author.Needs.{needs}
 use Rattle.recordbytes.proofs.state_kept.Statement.{statement}
 use Rattle.recordbytes.proofs.state_kept.Tie as tie
 

@@ -1,6 +1,5 @@
 -- `recordbytes::step_in` meets its contract. Assumes nothing.
 use mathlib.Core.Path.{ap, _∙_}
-use native.Mathlib.Omega.{arith}
 use Rattle.call.specs.declared.Side.the-variants.{Caller, Callee}
 use Rattle.call.specs.Protocol.{other, acted}
 use Rattle.call.proofs.Steps.{few, step-over-caller, step-over-callee, step-acted}

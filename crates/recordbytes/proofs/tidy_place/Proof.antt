@@ -1,5 +1,4 @@
 -- `recordbytes::tidy_place` meets its contract. Assumes nothing.
-use mathlib.Core.Path.{refl}
 use native.Mathlib.Omega.{arith}
 use lib.ListN.{length-set}
 use Rattle.callbytes.proofs.Slots.{put-three}

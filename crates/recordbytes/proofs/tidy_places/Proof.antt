@@ -4,7 +4,7 @@ use mathlib.Core.List.{List}
 use Prim.Native.Nat.{ℕ, _+_, _*_, _-_, _≤_}
 use native.Mathlib.Omega.{arith}
 use lib.ListN.{length}
-use lib.Seq.{sets, length-sets}
+use lib.Seq.{sets}
 use Rattle.callbytes.specs.Codec.{slotsBytes, slotsFrom}
 use Rattle.recordbytes.proofs.Places.{tidied-start, tidied-next, tidied-end, passed-over}
 use borrow.Author.Needs.{needs}

@@ -1,6 +1,5 @@
 -- `recordbytes::tunnel_kept` meets its contract. Assumes nothing.
 use Rattle.recordbytes.proofs.Kept.{no-tunnel, tunnel-same}
-use borrow.Author.Needs.{needs}
 use Rattle.recordbytes.proofs.tunnel_kept.Statement.{statement}
 use Rattle.recordbytes.proofs.tunnel_kept.Tie as tie
 
