@@ -39,7 +39,7 @@ sighted Sound t source target one other =
 -- after the end field: what is shown, or bytes too many
 unfoldable pub shownEnd : Types → List ℕ → List ℕ → Subscriber → Subscriber → ℕ → List ℕ → Sight
 shownEnd t source target first second at left =
-    cond (eqb (length left) 0) (sighted Sound t source target first second) (sighted (Refused (WrongEnd at)) t source target first second)
+    cond (eqb (length left) 0) (sighted Sound t source target first second) (unseen (WrongEnd at))
 
 -- reading on after the four fixed fields, by what they gave
 abbrev pub onward : Verdict → Types → List ℕ → List ℕ → List ℕ → Reading

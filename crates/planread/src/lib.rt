@@ -6,7 +6,7 @@ ghost use Prim.Native.Nat.{ℕ, _+_, _*_, _-_, _%_, _≤_, _<_};
 ghost use lib.Dec.{leb, ltb, eqb};
 ghost use lib.ListN.{length, take, drop, replicate};
 ghost use Rattle.plan.specs.Rules.{boxesBlank};
-ghost use Rattle.plan.specs.Sound.{typesSound, sourceSound, targetSound, ownSound, numberSaid, placeSaid};
+ghost use Rattle.plan.specs.Sound.{ownSound, numberSaid, placeSaid};
 ghost use Rattle.plan.specs.Table.{fits};
 ghost use Rattle.planbytes.specs.Numbers.{number, numbers};
 ghost use Rattle.planread.specs.Reading.{noTypes, planOf, blankPlan, typesIn, orderIn, subscriberWith, allowed, everLong, header, refused, ended, readFrom, readOf};

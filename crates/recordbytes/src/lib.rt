@@ -1,5 +1,5 @@
 // A command on a call record in lent bytes, for programs in other languages (01 'Calls'). A command is decided by few bytes of the record: the two counts, the acting end's state, the head of the queue towards it. So a
-// refusal reads little and changes nothing, and what is accepted is changed where it stands: no record is read whole, and none is stored whole.
+// refusal reads little and changes nothing, and what is accepted is tidied and changed where it stands: no record is made a value and stored again.
 use call::Answer;
 use call::Command;
 use call::Side;

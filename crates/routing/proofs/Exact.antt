@@ -1,6 +1,6 @@
 -- Any two results that a contract of this crate allows are equal, and so are any two contents of the two lists: read off the contracts themselves, as the functions in src/ state
 -- them. Assumes nothing.
-use mathlib.Core.Path.{_≡_, sym, _∙_}
+use mathlib.Core.Path.{_≡_, sym, ap, _∙_}
 use mathlib.Core.List.{List}
 use Prim.Native.Nat.{ℕ}
 use contract.Lifetimes.{Lfts}
@@ -12,7 +12,10 @@ use Rattle.plan.specs.declared.Seen.{Seen}
 use Rattle.plan.specs.Find.{seen}
 use Rattle.setup.specs.declared.Setup.{Setup}
 use Rattle.routing.specs.declared.Later.{Later}
+use Rattle.refusal.specs.declared.Refusal.{Refusal}
+use Rattle.routing.specs.declared.Outcome.the-variants.{Refused}
 use Rattle.routing.specs.declared.Answer.{Answer}
+use Rattle.routing.specs.Places.{isRouted}
 use lib.ListN.{length}
 use Rattle.routing.specs.declared.Later.the-variants.{Nothing}
 use Rattle.routing.specs.Steps.{target1}
@@ -70,3 +73,9 @@ route-seen-exact κs kept v out later source target end end′ r s p q plan show
     let of-p = p .0 plan shows in
     let of-q = q .0 plan shows in
     (of-p .0 ∙ sym (of-q .0), of-p .1 ∙ sym (of-q .1), of-p .2 ∙ sym (of-q .2))
+
+-- whatever part of a plan it is handed: where a setup is refused, both lists are as they were
+pub route-seen-kept : (κs : Lfts 2) (kept : Bool) (v : Seen) (out : Setup) (later : Later) (source target : RefT (List ℕ)) (end : AtExit (endedOf 2 route-seen-kinds.ps route-seen-kinds.r) κs) (r : Answer) (x : Refusal)
+    → route-seen.Post κs (kept, (v, (out, (later, (source, (target, tt)))))) r end → r .outcome ≡ Refused x
+    → (end .1 .1 .1 .1 .0 .now ≡ source .now) × (end .1 .1 .1 .1 .1 .0 .now ≡ target .now)
+route-seen-kept κs kept v out later source target end r x p e = (p .1 .0 (ap isRouted e), p .1 .1 (ap isRouted e))

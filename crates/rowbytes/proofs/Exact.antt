@@ -16,7 +16,10 @@ use Rattle.call.specs.declared.Answer.{Answer}
 use Rattle.call.specs.declared.Answer.the-variants.{Accepted}
 use Rattle.call.specs.declared.Command.{Command}
 use Rattle.call.specs.Row.{Reply, placed-at, says}
+use Rattle.refusal.specs.declared.Refusal.{Refusal}
+use Rattle.routing.specs.declared.Outcome.the-variants.{Refused}
 use Rattle.routing.specs.Steps.{target1}
+use Rattle.routing.specs.Places.{isRouted}
 use Rattle.placing.specs.declared.Placed.{Placed}
 use Rattle.rowbytes.proofs.lowest_free.Reads as lowest-free
 use Rattle.rowbytes.proofs.lowest_free.Kinds as lowest-free-kinds
@@ -70,3 +73,14 @@ port-place-exact κs kept port v x sources targets end end′ r s p q plan shows
     let of-p = p .0 plan shows in
     let of-q = q .0 plan shows in
     (of-p .0 ∙ sym (of-q .0), of-p .1 ∙ sym (of-q .1), of-p .3 ∙ sym (of-q .3), of-p .4 ∙ sym (of-q .4))
+
+-- whatever part of a plan is handed in: where a placing is refused, all that was lent is as it was
+pub place-kept : (κs : Lfts 3) (kept : Bool) (row : RefT (List ℕ)) (v : Seen) (x : Setup) (sources targets : RefT (List ℕ)) (end : AtExit (endedOf 3 place-kinds.ps place-kinds.r) κs) (r : Placed) (y : Refusal)
+    → place.Post κs (kept, (row, (v, (x, (sources, (targets, tt)))))) r end → r .routed .outcome ≡ Refused y
+    → (end .1 .0 .now ≡ row .now) × (end .1 .1 .1 .1 .0 .now ≡ sources .now) × (end .1 .1 .1 .1 .1 .0 .now ≡ targets .now)
+place-kept κs kept row v x sources targets end r y p e = (p .1 .0 (ap isRouted e), p .1 .1 (ap isRouted e), p .1 .2 (ap isRouted e))
+
+pub port-place-kept : (κs : Lfts 3) (kept : Bool) (port : RefT (List ℕ)) (v : Seen) (x : Setup) (sources targets : RefT (List ℕ)) (end : AtExit (endedOf 3 port-place-kinds.ps port-place-kinds.r) κs) (r : Placed) (y : Refusal)
+    → port-place.Post κs (kept, (port, (v, (x, (sources, (targets, tt)))))) r end → r .routed .outcome ≡ Refused y
+    → (end .1 .0 .now ≡ port .now) × (end .1 .1 .1 .1 .0 .now ≡ sources .now) × (end .1 .1 .1 .1 .1 .0 .now ≡ targets .now)
+port-place-kept κs kept port v x sources targets end r y p e = (p .1 .0 (ap isRouted e), p .1 .1 (ap isRouted e), p .1 .2 (ap isRouted e))

@@ -1,5 +1,5 @@
-// A row of calls, or a port's one, in lent bytes: 102 to a record, for programs in other languages (01 'Calls'). What a record does is the call's own step, and placing decides by its functions of values; here a
-// record is found, read as far as is needed, and stored where something is accepted. Nothing else is touched, and no refusal changes a byte.
+// A row of calls, or a port's one, in lent bytes: 102 to a record, for programs in other languages (01 'Calls'). What a record does with a command is in `recordbytes`, and placing decides by its functions of values; here a
+// record is found, and a call placed in it. Nothing else is touched, and no refusal changes a byte.
 use call::Answer;
 use call::Call;
 use call::Command;
@@ -56,6 +56,24 @@ pub fn lowest_free(row: &[u8]) -> usize
     i
 }
 
+fn wide(b: u8) -> u16
+    ensures { λ r. ⌜ (r ≡ b) × (r < 256) ⌝ }
+{
+    b as u16
+}
+
+// The use number of a record, by its two bytes; 0 where the row has no such record. A row's operations need no more of a record than this and its states, so that none is read whole; placing reads a port's one.
+fn use_at(row: &[u8], r: usize) -> u16
+    ensures { λ u. ⌜ u ≡ recordAt (rowIn (now (row .entry))) r .«use_number» ⌝ }
+{
+    if r < row.len() / 102 {
+        let at = 102 * r;
+        wide(row[at + 2]) * 256 + wide(row[at + 3])
+    } else {
+        0
+    }
+}
+
 // ---- clearing
 
 // Every record cleared. A cleared record's bytes are all 0.
@@ -96,24 +114,6 @@ pub fn command(row: &mut [u8], r: usize, use_number: u16, k: Command) -> Answer
 }
 
 // ---- placing
-
-fn wide(b: u8) -> u16
-    ensures { λ r. ⌜ (r ≡ b) × (r < 256) ⌝ }
-{
-    b as u16
-}
-
-// The use number of a record, by its two bytes; 0 where the row has no such record. Placing in a row needs no more of a record, so that none is read whole; a port's one is.
-fn use_at(row: &[u8], r: usize) -> u16
-    ensures { λ u. ⌜ u ≡ recordAt (rowIn (now (row .entry))) r .«use_number» ⌝ }
-{
-    if r < row.len() / 102 {
-        let at = 102 * r;
-        wide(row[at + 2]) * 256 + wide(row[at + 3])
-    } else {
-        0
-    }
-}
 
 fn blank(row: &mut [u8], at: usize)
     requires { ⌜ at + 102 ≤ length (now row) ⌝ }

@@ -10,7 +10,7 @@ use native.Mathlib.Omega.{arith}
 use Rattle.typeset.proofs.Bools.{passed, failed}
 use borrow.Author.Needs.{needs}
 use Prim.Native.Nat.{_-_}
-use Rattle.planread.proofs.Going.{Going, going-on}
+use Rattle.planread.proofs.Going.{going-on}
 use Rattle.planread.proofs.Passing.{Passing, passing-none, shown-new, shown-kept, scanned-refused, scanned-end, sighted-refused}
 use Rattle.planread.specs.Scanning.{scanned}
 use mathlib.Core.Logic.{⊎-elim}
