@@ -12,19 +12,13 @@ use contract.Lifetimes.{Lfts}
 use denote.Triple.Clauses.{AtExit}
 use denote.Triple.Entry.{Res, Args}
 use Rattle.walk.proofs.Exact.{any-two}
-use Rattle.call.specs.declared.Step.{Step}
 use Rattle.call.specs.Protocol.{numberIn}
-use Rattle.commanding.specs.declared.Answered.{Answered}
-use Rattle.exchange.specs.Lent.{rowIn}
 use Rattle.exchange.specs.Said.{numberStepped, numberCommanded}
 use Rattle.commanding.proofs.Turns.{answering-fixes, turn-answer}
 use Rattle.exchange.proofs.Numbered.{step-number}
 use Rattle.commanding.proofs.Numbered.{command-number}
 use Rattle.commanding.proofs.port_command as port-command
 use Rattle.commanding.proofs.command as command
-use Rattle.commanding.proofs.within as within
-use Rattle.commanding.proofs.command_in as command-in
-use Rattle.commanding.proofs.port_command_in as port-command-in
 
 module _ {M : Type 1} (𝓤 : URA M) (H : Heap 𝓤) (A : Atoms 𝓤) (mem : Memory → SProp 𝓤) (run : Routine → Fun 𝓤) where
   pub port-command-exact : (κs : Lfts (port-command.signature .lifetimes)) (a : Args port-command.signature κs) (g h : port-command.clauses 𝓤 H A mem run κs a .ghost) (r s : Res port-command.signature κs) (e f : AtExit port-command.ended κs)
@@ -35,31 +29,11 @@ module _ {M : Type 1} (𝓤 : URA M) (H : Heap 𝓤) (A : Atoms 𝓤) (mem : Mem
       → ent 𝓤 (conj 𝓤 (command.clauses 𝓤 H A mem run κs a .ensures g r e) (command.clauses 𝓤 H A mem run κs a .ensures h s f)) (fact 𝓤 ((r ≡ s) × (e .0 .now ≡ f .0 .now)))
   command-exact κs a g h r s e f = any-two 𝓤 H A ((r ≡ s) × (e .0 .now ≡ f .0 .now)) (λ p q. answering-fixes r s (e .0 .now) (f .0 .now) (p ∙ sym q))
 
-  pub within-exact : (κs : Lfts (within.signature .lifetimes)) (a : Args within.signature κs) (g h : within.clauses 𝓤 H A mem run κs a .ghost) (r s : Res within.signature κs) (e f : AtExit within.ended κs)
-      → ent 𝓤 (conj 𝓤 (within.clauses 𝓤 H A mem run κs a .ensures g r e) (within.clauses 𝓤 H A mem run κs a .ensures h s f)) (fact 𝓤 (r ≡ s))
-  within-exact κs a g h r s e f = any-two 𝓤 H A (r ≡ s) (λ p q. p ∙ sym q)
-
-  pub command-in-exact : (κs : Lfts (command-in.signature .lifetimes)) (a : Args command-in.signature κs) (g h : command-in.clauses 𝓤 H A mem run κs a .ghost) (r s : Res command-in.signature κs) (e f : AtExit command-in.ended κs)
-      → ent 𝓤 (conj 𝓤 (command-in.clauses 𝓤 H A mem run κs a .ensures g r e) (command-in.clauses 𝓤 H A mem run κs a .ensures h s f)) (fact 𝓤 (r ≡ s))
-  command-in-exact κs a g h r s e f = any-two 𝓤 H A (r ≡ s) (λ p q. p ∙ sym q)
-
-  pub port-command-in-exact : (κs : Lfts (port-command-in.signature .lifetimes)) (a : Args port-command-in.signature κs) (g h : port-command-in.clauses 𝓤 H A mem run κs a .ghost) (r s : Res port-command-in.signature κs) (e f : AtExit port-command-in.ended κs)
-      → ent 𝓤 (conj 𝓤 (port-command-in.clauses 𝓤 H A mem run κs a .ensures g r e) (port-command-in.clauses 𝓤 H A mem run κs a .ensures h s f)) (fact 𝓤 (r ≡ s))
-  port-command-in-exact κs a g h r s e f = any-two 𝓤 H A (r ≡ s) (λ p q. p ∙ sym q)
-
   -- AND EACH RESULT that a contract allows has document 01's number
   pub port-command-numbered : (κs : Lfts (port-command.signature .lifetimes)) (a : Args port-command.signature κs) (g : port-command.clauses 𝓤 H A mem run κs a .ghost) (r : Res port-command.signature κs) (e : AtExit port-command.ended κs)
       → ent 𝓤 (port-command.clauses 𝓤 H A mem run κs a .ensures g r e) (fact 𝓤 (numberIn r ≡ numberStepped (a .0 .now) (a .1 .0)))
   port-command-numbered κs a g r e = fact-mono 𝓤 _ (numberIn r ≡ numberStepped (a .0 .now) (a .1 .0)) (λ p. ap numberIn (p .0) ∙ step-number (a .0 .now) (a .1 .0))
 
-  pub port-command-in-numbered : (κs : Lfts (port-command-in.signature .lifetimes)) (a : Args port-command-in.signature κs) (g : port-command-in.clauses 𝓤 H A mem run κs a .ghost) (r : Res port-command-in.signature κs) (e : AtExit port-command-in.ended κs)
-      → ent 𝓤 (port-command-in.clauses 𝓤 H A mem run κs a .ensures g r e) (fact 𝓤 (numberIn (r .answer) ≡ numberStepped (a .0) (a .1 .0)))
-  port-command-in-numbered κs a g r e = fact-mono 𝓤 _ (numberIn (r .answer) ≡ numberStepped (a .0) (a .1 .0)) (λ p. ap (λ (z : Step). numberIn (z .answer)) p ∙ step-number (a .0) (a .1 .0))
-
   pub command-numbered : (κs : Lfts (command.signature .lifetimes)) (a : Args command.signature κs) (g : command.clauses 𝓤 H A mem run κs a .ghost) (r : Res command.signature κs) (e : AtExit command.ended κs)
       → ent 𝓤 (command.clauses 𝓤 H A mem run κs a .ensures g r e) (fact 𝓤 (numberIn r ≡ numberCommanded (a .0 .now) (a .1 .0) (a .1 .1 .0) (a .1 .1 .1 .0)))
   command-numbered κs a g r e = fact-mono 𝓤 _ (numberIn r ≡ numberCommanded (a .0 .now) (a .1 .0) (a .1 .1 .0) (a .1 .1 .1 .0)) (λ p. ap numberIn (turn-answer (a .0 .now) (e .0 .now) r (a .1 .0) (a .1 .1 .0) (a .1 .1 .1 .0) p) ∙ command-number (a .0 .now) (a .1 .0) (a .1 .1 .0) (a .1 .1 .1 .0))
-
-  pub command-in-numbered : (κs : Lfts (command-in.signature .lifetimes)) (a : Args command-in.signature κs) (g : command-in.clauses 𝓤 H A mem run κs a .ghost) (r : Res command-in.signature κs) (e : AtExit command-in.ended κs)
-      → ent 𝓤 (command-in.clauses 𝓤 H A mem run κs a .ensures g r e) (fact 𝓤 (numberIn (r .answer) ≡ numberCommanded (rowIn (a .0) (a .1 .0)) (a .1 .1 .0) (a .1 .1 .1 .0) (a .1 .1 .1 .1 .0)))
-  command-in-numbered κs a g r e = fact-mono 𝓤 _ (numberIn (r .answer) ≡ numberCommanded (rowIn (a .0) (a .1 .0)) (a .1 .1 .0) (a .1 .1 .1 .0) (a .1 .1 .1 .1 .0)) (λ p. ap (λ (z : Answered). numberIn (z .answer)) p ∙ command-number (rowIn (a .0) (a .1 .0)) (a .1 .1 .0) (a .1 .1 .1 .0) (a .1 .1 .1 .1 .0))

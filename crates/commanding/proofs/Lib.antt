@@ -1,4 +1,3 @@
-pub mod Plain
 pub mod Turns
 pub mod Numbered
 pub mod Exact

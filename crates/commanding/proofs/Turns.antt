@@ -1,14 +1,11 @@
 -- That what the code does with a record taken from a row is the row's own turn (the call's `Row.turn`). Assumes nothing.
-use Prim.Native.Nat.{ℕ, _<_, _≤_}
-use mathlib.Core.Path.{_≡_, refl, sym, _∙_, ap, subst}
-use mathlib.Core.Bool.{Bool, true, false, cond, not}
-use mathlib.Core.Logic.{_⊎_, inl, inr, ⊎-elim}
-use native.Mathlib.Omega.{arith}
-use borrow.Author.Tests.{lt-ltb, le-ltb}
+use Prim.Native.Nat.{ℕ}
+use mathlib.Core.Path.{_≡_, refl, sym, _∙_, ap}
+use mathlib.Core.Bool.{Bool, true, false, cond}
 use mathlib.Core.List.{List}
 use lib.ListN.{length, set, length-set}
 use lib.Seq.{set-getD, getD-set-other}
-use lib.Dec.{T as Holds, ltb, ltb→lt, nltb→le}
+use lib.Dec.{ltb}
 use Rattle.refusal.specs.declared.Refusal.{Refusal}
 use Rattle.refusal.specs.declared.Refusal.the-variants.{NoSuchCall, RowTooLong}
 use Rattle.call.specs.declared.Call.{Call}
@@ -18,7 +15,7 @@ use Rattle.call.specs.declared.Answer.the-variants.{Accepted, Refused}
 use Rattle.call.specs.declared.Step.{Step}
 use Rattle.call.specs.Protocol.{step, cleared, refusing}
 use Rattle.call.specs.Row.{Turn, Reply, placed-at, says, command, recordAt, named, refuses, put, turn}
-use Rattle.exchange.specs.Lent.{answering, takenAt, within as withinOf}
+use Rattle.exchange.specs.Lent.{answering, takenAt}
 use Rattle.commanding.specs.Lent.{commanded}
 
 -- the answer of a step for the record r, and the row with the record after it
@@ -61,14 +58,3 @@ others row r u j k ne =
 
 pub as-many : (row : List Call) (r u : ℕ) (k : Command) → length (turn row (command r u k) .row) ≡ length row
 as-many row r u k = ap (λ (t : Turn). length (t .row)) (sym (commanded-is row r u k)) ∙ length-set row r (commanded (length row) (takenAt row r) u k .call)
-
--- A ROW BY VALUE has at most as many records as there are.
-apart : (n : ℕ) → (1025 < n) ⊎ (n ≤ 1025)
-apart n = by (ltb 1025 n) refl
-  where
-    by : (t : Bool) → ltb 1025 n ≡ t → (1025 < n) ⊎ (n ≤ 1025)
-    by true e = inl (ltb→lt 1025 n (subst Holds (sym e) tt))
-    by false e = inr (nltb→le 1025 n (subst (λ (t : Bool). Holds (not t)) (sym e) tt))
-
-pub few : (n : ℕ) → withinOf n ≤ 1025
-few n = ⊎-elim (λ (l : 1025 < n). subst (λ (t : Bool). cond t 1025 n ≤ 1025) (sym (lt-ltb 1025 n l)) (omega arith)) (λ (l : n ≤ 1025). subst (λ (t : Bool). cond t 1025 n ≤ 1025) (sym (le-ltb 1025 n l)) l) (apart n)

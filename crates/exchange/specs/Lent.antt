@@ -1,8 +1,8 @@
--- What is taken from a lent row, what names a record of it, and an answer beside it, in the words of the call's own `Row` and `Protocol`; and a row by value. What a command comes to is in the crate `commanding`. Assumes nothing.
+-- What is taken from a lent row, what names a record of it, and an answer beside it, in the words of the call's own `Row` and `Protocol`. What a command comes to is in the crate `commanding`. Assumes nothing.
 use Prim.Native.Nat.{ℕ}
-use mathlib.Core.Bool.{Bool, cond, not, _&&_}
+use mathlib.Core.Bool.{Bool, not, _&&_}
 use mathlib.Core.List.{List}
-use lib.ListN.{length, take}
+use lib.ListN.{length}
 use lib.Dec.{ltb, eqb}
 use Rattle.call.specs.declared.Call.{Call}
 use Rattle.call.specs.declared.Answer.{Answer}
@@ -21,10 +21,3 @@ takenAt row r = record { inside = ltb r (length row); call = recordAt row r }
 -- the record is within the row, not free, and of this use
 abbrev pub answersTo : Taken → ℕ → Bool
 answersTo t u = t .inside && (not (isFree (t .call)) && eqb (t .call .«use_number») u)
-
--- A ROW BY VALUE: the first n of the records, all 1,025 where n is above
-abbrev pub within : ℕ → ℕ
-within n = cond (ltb 1025 n) 1025 n
-
-abbrev pub rowIn : List Call → ℕ → List Call
-rowIn calls n = take (within n) calls

@@ -93,6 +93,11 @@ abbrev pub unless : Bool → Refusal → Outcome → Outcome
 unless true r rest = rest
 unless false r rest = Refused r
 
+-- the refusal there is; else refused with r where the test fails
+unfoldable pub butFirst : Outcome → Bool → Refusal → Outcome
+butFirst Made t r = unless t r Made
+butFirst (Refused q) t r = Refused q
+
 -- 5: a route that is a list
 abbrev pub isList : Route → Bool
 isList Whole = false

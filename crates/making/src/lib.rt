@@ -11,7 +11,7 @@ ghost use Rattle.plan.specs.Find.{holderAt, seen};
 ghost use Rattle.zone.specs.Order.{held};
 ghost use Rattle.zone.specs.Answer.{zoneAt};
 ghost use Rattle.setup.specs.Setups.{routingAddress, wellFormed};
-ghost use Rattle.making.specs.Making.{boxAddress, boxType, typeExists, makesNew, makesMore, addressHeld, isList, notOwn, newOutcomeBy, continuedOutcomeBy, reversedOutcomeBy, answered, newAnswerBy, newAnswer, continuedAnswerBy, continuedAnswer, reversedAnswerBy, reversedAnswer, numberOfOutcome, placeOfOutcome};
+ghost use Rattle.making.specs.Making.{unless, butFirst, boxAddress, boxType, typeExists, makesNew, makesMore, addressHeld, isList, notOwn, newOutcomeBy, continuedOutcomeBy, reversedOutcomeBy, answered, newAnswerBy, newAnswer, continuedAnswerBy, continuedAnswer, reversedAnswerBy, reversedAnswer, numberOfOutcome, placeOfOutcome};
 ghost use Rattle.making.specs.Rows.{firstOf, newRows, continuedRows, reversedRows};
 use plan::Plan;
 use plan::Region;
@@ -182,6 +182,29 @@ fn both_legal(source_arg: u32, target_arg: u32) -> bool
     plan::legal(target_arg)
 }
 
+impl Outcome {
+    // The refusal there is; else `refusal` where the test fails.
+    fn unless(self, test: bool, refusal: Refusal) -> Outcome
+        ensures { λ r. ⌜ r ≡ butFirst self test refusal ⌝ }
+    {
+        match self {
+            Outcome::Made => unless(test, refusal, Outcome::Made),
+            Outcome::Refused(r) => Outcome::Refused(r),
+        }
+    }
+}
+
+// Refused with `refusal` where the test fails, else what follows.
+fn unless(test: bool, refusal: Refusal, rest: Outcome) -> Outcome
+    ensures { λ r. ⌜ r ≡ unless test refusal rest ⌝ }
+{
+    if test {
+        rest
+    } else {
+        Outcome::Refused(refusal)
+    }
+}
+
 fn new_outcome(
     kept: bool,
     existing: u32,
@@ -192,25 +215,31 @@ fn new_outcome(
 ) -> Outcome
     ensures { λ r. ⌜ ((p : Plan) → p .types .existing ≡ existing → holderAt p (boxAddress maker) ≡ holder → r ≡ newOutcomeBy kept p maker (now (string .entry)) «target_arg») ⌝ }
 {
-    if !kept {
-        return Outcome::Refused(Refusal::RuleBroken(IN_MEMORY));
-    }
-    if !type_exists(existing, maker) {
-        return Outcome::Refused(Refusal::NoSuchType);
-    }
-    if !makes_new(maker) {
-        return Outcome::Refused(Refusal::NotForThisBox);
-    }
-    if !address_held(holder, maker) {
-        return Outcome::Refused(Refusal::WrongAddress);
-    }
-    if !setup::legal_string(string) {
-        return Outcome::Refused(Refusal::BadString);
-    }
-    if !plan::legal(target_arg) {
-        return Outcome::Refused(Refusal::AddressTooLarge);
-    }
-    Outcome::Made
+    unless(
+        kept,
+        Refusal::RuleBroken(IN_MEMORY),
+        unless(
+            type_exists(existing, maker),
+            Refusal::NoSuchType,
+            unless(
+                makes_new(maker),
+                Refusal::NotForThisBox,
+                unless(
+                    address_held(holder, maker),
+                    Refusal::WrongAddress,
+                    unless(
+                        setup::legal_string(string),
+                        Refusal::BadString,
+                        unless(
+                            plan::legal(target_arg),
+                            Refusal::AddressTooLarge,
+                            Outcome::Made,
+                        ),
+                    ),
+                ),
+            ),
+        ),
+    )
 }
 
 fn continued_outcome(
@@ -228,34 +257,43 @@ fn continued_outcome(
     let holder = v.first;
     let region = s.region;
     let at = box_address(maker);
-    if !kept {
-        return Outcome::Refused(Refusal::RuleBroken(IN_MEMORY));
-    }
-    if !type_exists(types.existing, maker) {
-        return Outcome::Refused(Refusal::NoSuchType);
-    }
-    if !makes_more(maker) {
-        return Outcome::Refused(Refusal::NotForThisBox);
-    }
-    if !address_held(holder, maker) {
-        return Outcome::Refused(Refusal::WrongAddress);
-    }
-    if !continuable(zone_shown(region, v), types.reversible, s) {
-        return Outcome::Refused(Refusal::Malformed);
-    }
-    if setup::routing_address(s) != at {
-        return Outcome::Refused(Refusal::NotRoutedHere);
-    }
-    if !setup::legal_string(string) {
-        return Outcome::Refused(Refusal::BadString);
-    }
-    if !not_own(region, at, source_arg, target_arg) {
-        return Outcome::Refused(Refusal::OwnAddress);
-    }
-    if !both_legal(source_arg, target_arg) {
-        return Outcome::Refused(Refusal::AddressTooLarge);
-    }
-    Outcome::Made
+    unless(
+        kept,
+        Refusal::RuleBroken(IN_MEMORY),
+        unless(
+            type_exists(types.existing, maker),
+            Refusal::NoSuchType,
+            unless(
+                makes_more(maker),
+                Refusal::NotForThisBox,
+                unless(
+                    address_held(holder, maker),
+                    Refusal::WrongAddress,
+                    unless(
+                        continuable(zone_shown(region, v), types.reversible, s),
+                        Refusal::Malformed,
+                        unless(
+                            setup::routing_address(s) == at,
+                            Refusal::NotRoutedHere,
+                            unless(
+                                setup::legal_string(string),
+                                Refusal::BadString,
+                                unless(
+                                    not_own(region, at, source_arg, target_arg),
+                                    Refusal::OwnAddress,
+                                    unless(
+                                        both_legal(source_arg, target_arg),
+                                        Refusal::AddressTooLarge,
+                                        Outcome::Made,
+                                    ),
+                                ),
+                            ),
+                        ),
+                    ),
+                ),
+            ),
+        ),
+    )
 }
 
 fn reversible_type(reversible: u32, maker: Maker) -> bool
@@ -280,34 +318,25 @@ fn reversed_outcome(
     let region = s.region;
     let at = box_address(maker);
     let back = made::turned(region);
-    if !kept {
-        return Outcome::Refused(Refusal::RuleBroken(IN_MEMORY));
-    }
-    if !type_exists(types.existing, maker) {
-        return Outcome::Refused(Refusal::NoSuchType);
-    }
-    if !makes_more(maker) {
-        return Outcome::Refused(Refusal::NotForThisBox);
-    }
-    if !address_held(holder, maker) {
-        return Outcome::Refused(Refusal::WrongAddress);
-    }
-    if !reversible_type(types.reversible, maker) {
-        return Outcome::Refused(Refusal::NotReversible);
-    }
-    if !faults::well_formed_in(zone_shown(region, v), types.reversible, s) {
-        return Outcome::Refused(Refusal::Malformed);
-    }
-    if !setup::legal_string(string) {
-        return Outcome::Refused(Refusal::BadString);
-    }
-    if !not_own(back, at, source_arg, target_arg) {
-        return Outcome::Refused(Refusal::OwnAddress);
-    }
-    if !both_legal(source_arg, target_arg) {
-        return Outcome::Refused(Refusal::AddressTooLarge);
-    }
     Outcome::Made
+        .unless(kept, Refusal::RuleBroken(IN_MEMORY))
+        .unless(type_exists(types.existing, maker), Refusal::NoSuchType)
+        .unless(makes_more(maker), Refusal::NotForThisBox)
+        .unless(address_held(holder, maker), Refusal::WrongAddress)
+        .unless(
+            reversible_type(types.reversible, maker),
+            Refusal::NotReversible,
+        )
+        .unless(
+            faults::well_formed_in(zone_shown(region, v), types.reversible, s),
+            Refusal::Malformed,
+        )
+        .unless(setup::legal_string(string), Refusal::BadString)
+        .unless(
+            not_own(back, at, source_arg, target_arg),
+            Refusal::OwnAddress,
+        )
+        .unless(both_legal(source_arg, target_arg), Refusal::AddressTooLarge)
 }
 
 // ---- the three ways to make a setup

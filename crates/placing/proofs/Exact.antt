@@ -19,15 +19,10 @@ use Rattle.routing.specs.declared.Answer.{Answer}
 use Rattle.routing.specs.Routing.{numberOfOutcome, placeOfOutcome, numberGiven, placeGiven}
 use Rattle.routing.proofs.Numbered.{said}
 use Rattle.call.specs.Row.{Reply, placed-at, says}
-use Rattle.exchange.specs.Lent.{rowIn}
 use Rattle.placing.specs.declared.Placed.{Placed}
-use Rattle.placing.specs.declared.PortPlaced.{PortPlaced}
-use Rattle.placing.specs.declared.RowPlaced.{RowPlaced}
 use Rattle.placing.specs.Rows.{laterFor, outcomeIn, answerIn, turned, answered}
 use Rattle.placing.proofs.place_port as place-port
 use Rattle.placing.proofs.place as place
-use Rattle.placing.proofs.place_in as place-in
-use Rattle.placing.proofs.place_port_in as place-port-in
 use Rattle.placing.proofs.answer_for.Reads as answer-for
 use Rattle.placing.proofs.port_later.Reads as port-later
 use Rattle.placing.proofs.later_for.Reads as later-for
@@ -48,14 +43,6 @@ module _ {M : Type 1} (𝓤 : URA M) (H : Heap 𝓤) (A : Atoms 𝓤) (mem : Mem
       → ent 𝓤 (conj 𝓤 (place.clauses 𝓤 H A mem run κs a .ensures g r e) (place.clauses 𝓤 H A mem run κs a .ensures h s f)) (fact 𝓤 ((r ≡ s) × (e .0 .now ≡ f .0 .now) × (e .1 .1 .1 .0 .now ≡ f .1 .1 .1 .0 .now) × (e .1 .1 .1 .1 .0 .now ≡ f .1 .1 .1 .1 .0 .now)))
   place-exact κs a g h r s e f = any-two 𝓤 H A ((r ≡ s) × (e .0 .now ≡ f .0 .now) × (e .1 .1 .1 .0 .now ≡ f .1 .1 .1 .0 .now) × (e .1 .1 .1 .1 .0 .now ≡ f .1 .1 .1 .1 .0 .now)) (λ p q. (p .0 ∙ sym (q .0), p .1 ∙ sym (q .1), p .2 ∙ sym (q .2), p .3 ∙ sym (q .3)))
 
-  pub place-in-exact : (κs : Lfts (place-in.signature .lifetimes)) (a : Args place-in.signature κs) (g h : place-in.clauses 𝓤 H A mem run κs a .ghost) (r s : Res place-in.signature κs) (e f : AtExit place-in.ended κs)
-      → ent 𝓤 (conj 𝓤 (place-in.clauses 𝓤 H A mem run κs a .ensures g r e) (place-in.clauses 𝓤 H A mem run κs a .ensures h s f)) (fact 𝓤 ((r ≡ s) × (e .1 .1 .1 .1 .0 .now ≡ f .1 .1 .1 .1 .0 .now) × (e .1 .1 .1 .1 .1 .0 .now ≡ f .1 .1 .1 .1 .1 .0 .now)))
-  place-in-exact κs a g h r s e f = any-two 𝓤 H A ((r ≡ s) × (e .1 .1 .1 .1 .0 .now ≡ f .1 .1 .1 .1 .0 .now) × (e .1 .1 .1 .1 .1 .0 .now ≡ f .1 .1 .1 .1 .1 .0 .now)) (λ p q. (p .0 ∙ sym (q .0), p .1 ∙ sym (q .1), p .2 ∙ sym (q .2)))
-
-  pub place-port-in-exact : (κs : Lfts (place-port-in.signature .lifetimes)) (a : Args place-port-in.signature κs) (g h : place-port-in.clauses 𝓤 H A mem run κs a .ghost) (r s : Res place-port-in.signature κs) (e f : AtExit place-port-in.ended κs)
-      → ent 𝓤 (conj 𝓤 (place-port-in.clauses 𝓤 H A mem run κs a .ensures g r e) (place-port-in.clauses 𝓤 H A mem run κs a .ensures h s f)) (fact 𝓤 ((r ≡ s) × (e .1 .1 .1 .0 .now ≡ f .1 .1 .1 .0 .now) × (e .1 .1 .1 .1 .0 .now ≡ f .1 .1 .1 .1 .0 .now)))
-  place-port-in-exact κs a g h r s e f = any-two 𝓤 H A ((r ≡ s) × (e .1 .1 .1 .0 .now ≡ f .1 .1 .1 .0 .now) × (e .1 .1 .1 .1 .0 .now ≡ f .1 .1 .1 .1 .0 .now)) (λ p q. (p .0 ∙ sym (q .0), p .1 ∙ sym (q .1), p .2 ∙ sym (q .2)))
-
   -- AND EACH RESULT that a contract allows has document 01's number and place: 23, 5, 18, then the row's own
   pub place-port-numbered : (κs : Lfts (place-port.signature .lifetimes)) (a : Args place-port.signature κs) (g : place-port.clauses 𝓤 H A mem run κs a .ghost) (r : Res place-port.signature κs) (e : AtExit place-port.ended κs)
       → ent 𝓤 (place-port.clauses 𝓤 H A mem run κs a .ensures g r e) (fact 𝓤 ((numberOfOutcome (r .routed .outcome) ≡ numberGiven (a .1 .0) (a .1 .1 .0) (laterFor (a .0 .now ∷ [])) (length (a .1 .1 .1 .0 .now)) (length (a .1 .1 .1 .1 .0 .now))) × (placeOfOutcome (r .routed .outcome) ≡ placeGiven (a .1 .0) (a .1 .1 .0) (laterFor (a .0 .now ∷ [])) (length (a .1 .1 .1 .0 .now)) (length (a .1 .1 .1 .1 .0 .now)))))
@@ -64,14 +51,6 @@ module _ {M : Type 1} (𝓤 : URA M) (H : Heap 𝓤) (A : Atoms 𝓤) (mem : Mem
   pub place-numbered : (κs : Lfts (place.signature .lifetimes)) (a : Args place.signature κs) (g : place.clauses 𝓤 H A mem run κs a .ghost) (r : Res place.signature κs) (e : AtExit place.ended κs)
       → ent 𝓤 (place.clauses 𝓤 H A mem run κs a .ensures g r e) (fact 𝓤 ((numberOfOutcome (r .routed .outcome) ≡ numberGiven (a .1 .0) (a .1 .1 .0) (laterFor (a .0 .now)) (length (a .1 .1 .1 .0 .now)) (length (a .1 .1 .1 .1 .0 .now))) × (placeOfOutcome (r .routed .outcome) ≡ placeGiven (a .1 .0) (a .1 .1 .0) (laterFor (a .0 .now)) (length (a .1 .1 .1 .0 .now)) (length (a .1 .1 .1 .1 .0 .now)))))
   place-numbered κs a g r e = fact-mono 𝓤 _ ((numberOfOutcome (r .routed .outcome) ≡ numberGiven (a .1 .0) (a .1 .1 .0) (laterFor (a .0 .now)) (length (a .1 .1 .1 .0 .now)) (length (a .1 .1 .1 .1 .0 .now))) × (placeOfOutcome (r .routed .outcome) ≡ placeGiven (a .1 .0) (a .1 .1 .0) (laterFor (a .0 .now)) (length (a .1 .1 .1 .0 .now)) (length (a .1 .1 .1 .1 .0 .now)))) (λ p. said (a .1 .0) (a .1 .1 .0) (laterFor (a .0 .now)) (length (a .1 .1 .1 .0 .now)) (length (a .1 .1 .1 .1 .0 .now)) (r .routed) (ap (λ (z : Placed). z .routed) (p .0) ∙ routed-is (turned (a .0 .now) (outcomeIn (a .0 .now) (a .1 .0) (a .1 .1 .0) (length (a .1 .1 .1 .0 .now)) (length (a .1 .1 .1 .1 .0 .now))) .reply) (answerIn (a .0 .now) (a .1 .0) (a .1 .1 .0) (length (a .1 .1 .1 .0 .now)) (length (a .1 .1 .1 .1 .0 .now)))))
-
-  pub place-in-numbered : (κs : Lfts (place-in.signature .lifetimes)) (a : Args place-in.signature κs) (g : place-in.clauses 𝓤 H A mem run κs a .ghost) (r : Res place-in.signature κs) (e : AtExit place-in.ended κs)
-      → ent 𝓤 (place-in.clauses 𝓤 H A mem run κs a .ensures g r e) (fact 𝓤 ((numberOfOutcome (r .placed .routed .outcome) ≡ numberGiven (a .1 .1 .0) (a .1 .1 .1 .0) (laterFor (rowIn (a .0) (a .1 .0))) (length (a .1 .1 .1 .1 .0 .now)) (length (a .1 .1 .1 .1 .1 .0 .now))) × (placeOfOutcome (r .placed .routed .outcome) ≡ placeGiven (a .1 .1 .0) (a .1 .1 .1 .0) (laterFor (rowIn (a .0) (a .1 .0))) (length (a .1 .1 .1 .1 .0 .now)) (length (a .1 .1 .1 .1 .1 .0 .now)))))
-  place-in-numbered κs a g r e = fact-mono 𝓤 _ ((numberOfOutcome (r .placed .routed .outcome) ≡ numberGiven (a .1 .1 .0) (a .1 .1 .1 .0) (laterFor (rowIn (a .0) (a .1 .0))) (length (a .1 .1 .1 .1 .0 .now)) (length (a .1 .1 .1 .1 .1 .0 .now))) × (placeOfOutcome (r .placed .routed .outcome) ≡ placeGiven (a .1 .1 .0) (a .1 .1 .1 .0) (laterFor (rowIn (a .0) (a .1 .0))) (length (a .1 .1 .1 .1 .0 .now)) (length (a .1 .1 .1 .1 .1 .0 .now)))) (λ p. said (a .1 .1 .0) (a .1 .1 .1 .0) (laterFor (rowIn (a .0) (a .1 .0))) (length (a .1 .1 .1 .1 .0 .now)) (length (a .1 .1 .1 .1 .1 .0 .now)) (r .placed .routed) (ap (λ (z : RowPlaced). z .placed .routed) (p .0) ∙ routed-is (turned (rowIn (a .0) (a .1 .0)) (outcomeIn (rowIn (a .0) (a .1 .0)) (a .1 .1 .0) (a .1 .1 .1 .0) (length (a .1 .1 .1 .1 .0 .now)) (length (a .1 .1 .1 .1 .1 .0 .now))) .reply) (answerIn (rowIn (a .0) (a .1 .0)) (a .1 .1 .0) (a .1 .1 .1 .0) (length (a .1 .1 .1 .1 .0 .now)) (length (a .1 .1 .1 .1 .1 .0 .now)))))
-
-  pub place-port-in-numbered : (κs : Lfts (place-port-in.signature .lifetimes)) (a : Args place-port-in.signature κs) (g : place-port-in.clauses 𝓤 H A mem run κs a .ghost) (r : Res place-port-in.signature κs) (e : AtExit place-port-in.ended κs)
-      → ent 𝓤 (place-port-in.clauses 𝓤 H A mem run κs a .ensures g r e) (fact 𝓤 ((numberOfOutcome (r .placed .routed .outcome) ≡ numberGiven (a .1 .0) (a .1 .1 .0) (laterFor (a .0 ∷ [])) (length (a .1 .1 .1 .0 .now)) (length (a .1 .1 .1 .1 .0 .now))) × (placeOfOutcome (r .placed .routed .outcome) ≡ placeGiven (a .1 .0) (a .1 .1 .0) (laterFor (a .0 ∷ [])) (length (a .1 .1 .1 .0 .now)) (length (a .1 .1 .1 .1 .0 .now)))))
-  place-port-in-numbered κs a g r e = fact-mono 𝓤 _ ((numberOfOutcome (r .placed .routed .outcome) ≡ numberGiven (a .1 .0) (a .1 .1 .0) (laterFor (a .0 ∷ [])) (length (a .1 .1 .1 .0 .now)) (length (a .1 .1 .1 .1 .0 .now))) × (placeOfOutcome (r .placed .routed .outcome) ≡ placeGiven (a .1 .0) (a .1 .1 .0) (laterFor (a .0 ∷ [])) (length (a .1 .1 .1 .0 .now)) (length (a .1 .1 .1 .1 .0 .now)))) (λ p. said (a .1 .0) (a .1 .1 .0) (laterFor (a .0 ∷ [])) (length (a .1 .1 .1 .0 .now)) (length (a .1 .1 .1 .1 .0 .now)) (r .placed .routed) (ap (λ (z : PortPlaced). z .placed .routed) (p .0) ∙ routed-is (turned (a .0 ∷ []) (outcomeIn (a .0 ∷ []) (a .1 .0) (a .1 .1 .0) (length (a .1 .1 .1 .0 .now)) (length (a .1 .1 .1 .1 .0 .now))) .reply) (answerIn (a .0 ∷ []) (a .1 .0) (a .1 .1 .0) (length (a .1 .1 .1 .0 .now)) (length (a .1 .1 .1 .1 .0 .now)))))
 
 pub later-for-exact : (n i : ℕ) (r s : Later) → later-for.Post tt (n, (i, tt)) r (n, (i, tt)) → later-for.Post tt (n, (i, tt)) s (n, (i, tt)) → r ≡ s
 later-for-exact n i r s p q = p ∙ sym q

@@ -52,7 +52,7 @@ abbrev pub portNumber : Call → PortOperation → ℕ
 portNumber c (placing-there p s n m) = numberOfOutcome (outcomeIn (c ∷ []) p s n m)
 portNumber c (commanding-it k) = numberIn (step c k .answer)
 
--- What may be done to a row: these, the operations of a port on its record r, lent alone, and clearing. `exchange::store` is none of them, nor is writing a record's fields: it is a part of placing and of commands, and puts any record into a row, one that no call led to among them.
+-- A row may be placed in, commanded, cleared, or have one record used as a port. Storing a record by hand (`exchange::store`) is not counted: it could put in a record that no call ever led to.
 pub data Use : Type 0 where
   operating : Operation → Use
   lending : (r : ℕ) → PortOperation → Use

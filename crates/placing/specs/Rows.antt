@@ -1,8 +1,8 @@
 -- PLACING in a lent row (01 'Calls'): routing's refusals 23, 5, 18, then the row's own, 16 and 11; else the lowest free record takes the call. A port is a row of one. Assumes nothing.
 use Prim.Native.Nat.{ℕ}
 use mathlib.Core.Bool.{Bool, cond}
-use mathlib.Core.List.{List, [], _∷_, _++_}
-use lib.ListN.{length, drop}
+use mathlib.Core.List.{List}
+use lib.ListN.{length}
 use lib.Dec.{ltb}
 use Rattle.refusal.specs.declared.Refusal.the-variants.{RowTooLong, NoFreeRecord}
 use Rattle.plan.specs.declared.Plan.{Plan}
@@ -16,10 +16,7 @@ use Rattle.routing.specs.declared.Answer.{Answer}
 use Rattle.routing.specs.Routing.{outcomeBy, answerBy}
 use Rattle.call.specs.declared.Call.{Call}
 use Rattle.call.specs.Row.{Turn, Reply, placed-at, says, place, recordAt, lowestFree, refuses, turn}
-use Rattle.exchange.specs.Lent.{within, rowIn}
 use Rattle.placing.specs.declared.Placed.{Placed}
-use Rattle.placing.specs.declared.PortPlaced.{PortPlaced}
-use Rattle.placing.specs.declared.RowPlaced.{RowPlaced}
 
 -- what a row of n whose lowest free record is r refuses by itself: 16, 11
 abbrev pub laterBy : ℕ → ℕ → Later
@@ -62,11 +59,3 @@ rowAfterBy kept row p s n m = turned row (outcomeInBy kept row p s n m) .row
 
 abbrev pub rowAfter : List Call → Plan → Setup → ℕ → ℕ → List Call
 rowAfter row p s n m = rowAfterBy (sound p) row p s n m
-
--- A port by value.
-abbrev pub portPlaced : Call → Plan → Setup → ℕ → ℕ → PortPlaced
-portPlaced c p s n m = record { call = recordAt (rowAfter (c ∷ []) p s n m) 0; placed = placedIn (c ∷ []) p s n m }
-
--- A ROW BY VALUE: the first k of the records; those past it stay.
-abbrev pub rowPlaced : List Call → ℕ → Plan → Setup → ℕ → ℕ → RowPlaced
-rowPlaced calls k p s n m = record { placed = placedIn (rowIn calls k) p s n m; calls = rowAfter (rowIn calls k) p s n m ++ drop (within k) calls }

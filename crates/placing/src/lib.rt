@@ -1,5 +1,5 @@
 // Placing a call in a port or in a row, where they are lent (01 'Calls'): 23, 5, 18, 16, 11, in this order; on any refusal no list, no record and no byte is changed.
-// The functions that touch what is lent, or lend a record or a row of their own, are thin and their proofs are walks by hand; every decision is made by a function of values.
+// The functions that touch what is lent are thin and their proofs are walks by hand; every decision is made by a function of values.
 use call::Call;
 use plan::Plan;
 use refusal::Refusal;
@@ -9,11 +9,9 @@ use setup::Setup;
 ghost use mathlib.Core.Path.{_≡_};
 ghost use mathlib.Core.List.{[], _∷_};
 ghost use lib.ListN.{length};
-ghost use lib.ListN.{length as records};
 ghost use Rattle.routing.specs.Routing.{sourceList, targetList};
 ghost use Rattle.call.specs.Row.{recordAt};
-ghost use Rattle.placing.specs.Rows.{laterBy, laterFor, outcomeIn, placedIn, rowAfter, portPlaced, rowPlaced};
-ghost use Rattle.exchange.specs.Lent.{rowIn};
+ghost use Rattle.placing.specs.Rows.{laterBy, laterFor, outcomeIn, placedIn, rowAfter};
 ghost use Rattle.placing.specs.Parts as parts;
 
 // Where a call was placed, and what routing gave. Beside a refusal, which is in what routing gave, the two numbers are 0.
@@ -123,51 +121,4 @@ pub fn place(
     let c = t.call;
     exchange::store(row, r, record_after(a, c));
     answer_for(a, r, c)
-}
-
-// BY VALUE, for callers that lend no record.
-// What placing answers, and the port's record after it.
-pub struct PortPlaced {
-    pub call: Call,
-    pub placed: Placed,
-}
-
-// A call is placed in a port that is this record.
-pub fn place_port_in(
-    mut port: Call,
-    plan: Plan,
-    out: Setup,
-    source_list: &mut [u8],
-    target_list: &mut [u8],
-) -> PortPlaced
-    ensures { λ z. ⌜ (z ≡ portPlaced port plan out (length (now («source_list» .entry))) (length (now («target_list» .entry))))
-        × (now («source_list» .exit) ≡ sourceList plan out (outcomeIn (port ∷ []) plan out (length (now («source_list» .entry))) (length (now («target_list» .entry)))) (now («source_list» .entry)))
-        × (now («target_list» .exit) ≡ targetList plan out (outcomeIn (port ∷ []) plan out (length (now («source_list» .entry))) (length (now («target_list» .entry)))) (now («target_list» .entry))) ⌝ }
-{
-    let placed = place_port(&mut port, plan, out, source_list, target_list);
-    PortPlaced { call: port, placed }
-}
-
-// What placing answers, and the records after it.
-pub struct RowPlaced {
-    pub placed: Placed,
-    pub calls: [Call; 1025],
-}
-
-// A call is placed in a row that is the first `length` of these records.
-pub fn place_in(
-    mut calls: [Call; 1025],
-    length: usize,
-    plan: Plan,
-    out: Setup,
-    source_list: &mut [u8],
-    target_list: &mut [u8],
-) -> RowPlaced
-    ensures { λ z. ⌜ (z ≡ rowPlaced calls length plan out (records (now («source_list» .entry))) (records (now («target_list» .entry))))
-        × (now («source_list» .exit) ≡ sourceList plan out (outcomeIn (rowIn calls length) plan out (records (now («source_list» .entry))) (records (now («target_list» .entry)))) (now («source_list» .entry)))
-        × (now («target_list» .exit) ≡ targetList plan out (outcomeIn (rowIn calls length) plan out (records (now («source_list» .entry))) (records (now («target_list» .entry)))) (now («target_list» .entry))) ⌝ }
-{
-    let n = commanding::within(length);
-    let placed = place(&mut calls[..n], plan, out, source_list, target_list);
-    RowPlaced { placed, calls }
 }

@@ -199,7 +199,7 @@ fn places(count: u16) -> usize
     if count < 256 { count as usize } else { 256 }
 }
 
-// Writing by a verdict on the plan, for a caller that has it already: `kept` says whether the plan is sound. Nothing else is taken on trust.
+// Writing, after the test: `kept` says whether the plan is sound. Nothing else is taken on trust.
 fn write_tested(kept: bool, plan: Plan, room: &mut [u8]) -> Written
     ensures { λ r. ⌜ (r ≡ writtenBy kept plan (now (room .entry))) × (now (room .exit) ≡ roomAfterBy kept plan (now (room .entry))) ⌝ }
 {

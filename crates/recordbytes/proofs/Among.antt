@@ -19,7 +19,14 @@ use Rattle.call.specs.Protocol as protocol
 use Rattle.call.specs.Protocol.{queueTo, slot, blank, push, pop}
 use Rattle.callbytes.specs.Codec.{slotBytes, slotsBytes, callBytes}
 use Rattle.callbytes.proofs.Slots.{bytes-length}
-use Rattle.recordbytes.specs.Parts.{statePlace, queuePlace, withEnd, withQueue, pushedAt, poppedAt}
+use Rattle.recordbytes.specs.Parts.{statePlace, queuePlace, withEnd, pushedAt, poppedAt}
+
+-- the record with the queue towards one side replaced
+abbrev pub withQueue : Side → Queue → Call → Call
+withQueue Caller q c =
+    record { caller = c .caller; callee = c .callee; «to_caller» = q; «to_callee» = c .«to_callee»; «use_number» = c .«use_number» }
+withQueue Callee q c =
+    record { caller = c .caller; callee = c .callee; «to_caller» = c .«to_caller»; «to_callee» = q; «use_number» = c .«use_number» }
 
 -- ---- stores behind some bytes and before others
 

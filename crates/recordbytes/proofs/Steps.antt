@@ -30,8 +30,8 @@ use Rattle.call.specs.History.{accepted}
 use Rattle.teardown.proofs.Theorem.{keepsItsUse}
 use Rattle.callbytes.specs.Codec.{slotBytes, callBytes, callAt, putAt, Fits}
 use Rattle.recordbytes.specs.Steps.{steppedAt}
-use Rattle.recordbytes.specs.Parts.{recordFrom, queuePlace, withEnd, withQueue, pushedAt, poppedAt, settledBy}
-use Rattle.recordbytes.proofs.Among.{Places, count-in, push-in, pop-in}
+use Rattle.recordbytes.specs.Parts.{recordFrom, queuePlace, withEnd, pushedAt, poppedAt, storedBy}
+use Rattle.recordbytes.proofs.Among.{withQueue, Places, count-in, push-in, pop-in}
 use Rattle.recordbytes.proofs.Records.{places-from, count-from}
 
 -- ---- a record keeps its places
@@ -111,7 +111,7 @@ module _ (b : List ℕ) (at : ℕ) (room : at + 102 ≤ length b) (s : Side) (e 
 
 -- what a function gives where the step is s: the answer, and the bytes
 abbrev pub Gives : List ℕ → ℕ → Step → Answer → List ℕ → Type 0
-Gives b at s z w = (z ≡ s .answer) × (w ≡ settledBy s b at)
+Gives b at s z w = (z ≡ s .answer) × (w ≡ storedBy s b at)
 
 module _ (b : List ℕ) (at : ℕ) where
   abbrev c : Call
@@ -264,7 +264,7 @@ module _ (b : List ℕ) (at : ℕ) (k : Command) where
       let none : callAt b at ≡ cleared = rw (lt-ltb (length b - at) 102 h) refl in
       rw none (ez, sym (ap (λ (t : Bool). cond t (putAt b at (step cleared k .call)) b) (none-accepted k)), step-fits cleared k cleared-fits)
 
-  pub there : at + 102 ≤ length b → Fits (recordFrom b at) → {z : _} {d : List ℕ} → z ≡ step (recordFrom b at) k .answer → d ≡ settledBy (step (recordFrom b at) k) b at
+  pub there : at + 102 ≤ length b → Fits (recordFrom b at) → {z : _} {d : List ℕ} → z ≡ step (recordFrom b at) k .answer → d ≡ storedBy (step (recordFrom b at) k) b at
       → (z ≡ step (callAt b at) k .answer) × (d ≡ steppedAt b at k) × Fits (step (callAt b at) k .call)
   unfolding callAt putAt
   there h f ez ed =

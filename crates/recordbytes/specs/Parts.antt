@@ -8,7 +8,6 @@ use lib.Seq.{sets}
 use Rattle.typeset.specs.Sets.{some}
 use Rattle.ends.specs.declared.End.{End}
 use Rattle.ends.specs.declared.Signal.{Signal}
-use Rattle.call.specs.declared.Queue.{Queue}
 use Rattle.call.specs.declared.Call.{Call}
 use Rattle.call.specs.declared.Step.{Step}
 use Rattle.call.specs.declared.Side.{Side}
@@ -30,15 +29,9 @@ abbrev pub queuePlace : Side → ℕ
 queuePlace Caller = 4
 queuePlace Callee = 53
 
--- the record with one end, or with the queue towards one side, replaced
+-- the record with one end replaced
 abbrev pub withEnd : Side → End → Call → Call
 withEnd s e c = moved s e (queueTo s c) (queueTo (other s) c) c
-
-abbrev pub withQueue : Side → Queue → Call → Call
-withQueue Caller q c =
-    record { caller = c .caller; callee = c .callee; «to_caller» = q; «to_callee» = c .«to_callee»; «use_number» = c .«use_number» }
-withQueue Callee q c =
-    record { caller = c .caller; callee = c .callee; «to_caller» = c .«to_caller»; «to_callee» = q; «use_number» = c .«use_number» }
 
 -- one of the 48 bytes from a place on is not 0
 unfoldable pub someSet : List ℕ → ℕ → Bool
@@ -52,5 +45,5 @@ unfoldable pub poppedAt : List ℕ → ℕ → List ℕ
 poppedAt b q = set (sets b (q + 1) (take 45 (drop (q + 4) b) ++ (0 ∷ 0 ∷ 0 ∷ []))) q (getD b q 0 - 1)
 
 -- the record from a place on is the one after a step that is accepted
-abbrev pub settledBy : Step → List ℕ → ℕ → List ℕ
-settledBy s b at = cond (accepted (s .answer)) (sets b at (callBytes (s .call))) b
+abbrev pub storedBy : Step → List ℕ → ℕ → List ℕ
+storedBy s b at = cond (accepted (s .answer)) (sets b at (callBytes (s .call))) b

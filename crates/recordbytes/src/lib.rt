@@ -18,7 +18,7 @@ ghost use Rattle.call.specs.Protocol.{other, endOf, queueTo, slot, pop, moved, 
 ghost use Rattle.call.specs.Parts.{oneSent, threeSent, replied};
 ghost use Rattle.callbytes.specs.Codec.{slotBytes, slotsBytes, callBytes, slotAt, slotsFrom, callAt, Fits};
 ghost use Rattle.recordbytes.specs.Steps.{steppedAt};
-ghost use Rattle.recordbytes.specs.Parts.{recordFrom, statePlace, queuePlace, withEnd, someSet, pushedAt, poppedAt, settledBy};
+ghost use Rattle.recordbytes.specs.Parts.{recordFrom, statePlace, queuePlace, withEnd, someSet, pushedAt, poppedAt, storedBy};
 
 // ---- a record as the code itself would write it
 
@@ -202,7 +202,7 @@ fn pop(row: &mut [u8], q: usize)
 fn one_sent(row: &mut [u8], at: usize, s: Side, v: Verdict, x: Signal) -> Answer
     requires { ⌜ at + 102 ≤ length (now row) ⌝ }
     ensures { λ z. ⌜ (z ≡ oneSent (recordFrom (now (row .entry)) at) s v x .answer)
-        × (now (row .exit) ≡ settledBy (oneSent (recordFrom (now (row .entry)) at) s v x) (now (row .entry)) at) ⌝ }
+        × (now (row .exit) ≡ storedBy (oneSent (recordFrom (now (row .entry)) at) s v x) (now (row .entry)) at) ⌝ }
 {
     match v {
         Verdict::Refuse(r) => Answer::Refused(r),
@@ -222,7 +222,7 @@ fn one_sent(row: &mut [u8], at: usize, s: Side, v: Verdict, x: Signal) -> Answer
 fn three_sent(row: &mut [u8], at: usize, v: Verdict, status: Status) -> Answer
     requires { ⌜ at + 102 ≤ length (now row) ⌝ }
     ensures { λ z. ⌜ (z ≡ threeSent (recordFrom (now (row .entry)) at) v status .answer)
-        × (now (row .exit) ≡ settledBy (threeSent (recordFrom (now (row .entry)) at) v status) (now (row .entry)) at) ⌝ }
+        × (now (row .exit) ≡ storedBy (threeSent (recordFrom (now (row .entry)) at) v status) (now (row .entry)) at) ⌝ }
 {
     match v {
         Verdict::Refuse(r) => Answer::Refused(r),
@@ -243,7 +243,7 @@ fn three_sent(row: &mut [u8], at: usize, v: Verdict, status: Status) -> Answer
 fn accept(row: &mut [u8], at: usize) -> Answer
     requires { ⌜ at + 102 ≤ length (now row) ⌝ }
     ensures { λ z. ⌜ (z ≡ acted (recordFrom (now (row .entry)) at) Command.Accept .answer)
-        × (now (row .exit) ≡ settledBy (acted (recordFrom (now (row .entry)) at) Command.Accept) (now (row .entry)) at) ⌝ }
+        × (now (row .exit) ≡ storedBy (acted (recordFrom (now (row .entry)) at) Command.Accept) (now (row .entry)) at) ⌝ }
 {
     let v = end_at(row, at, Side::Callee).answer(State::Linked);
     one_sent(row, at, Side::Callee, v, Signal::Upack)
@@ -252,7 +252,7 @@ fn accept(row: &mut [u8], at: usize) -> Answer
 fn busy(row: &mut [u8], at: usize) -> Answer
     requires { ⌜ at + 102 ≤ length (now row) ⌝ }
     ensures { λ z. ⌜ (z ≡ acted (recordFrom (now (row .entry)) at) Command.Busy .answer)
-        × (now (row .exit) ≡ settledBy (acted (recordFrom (now (row .entry)) at) Command.Busy) (now (row .entry)) at) ⌝ }
+        × (now (row .exit) ≡ storedBy (acted (recordFrom (now (row .entry)) at) Command.Busy) (now (row .entry)) at) ⌝ }
 {
     let v = end_at(row, at, Side::Callee).answer(State::Unlinking);
     three_sent(row, at, v, Status::Unavail)
@@ -261,7 +261,7 @@ fn busy(row: &mut [u8], at: usize) -> Answer
 fn unobtainable(row: &mut [u8], at: usize) -> Answer
     requires { ⌜ at + 102 ≤ length (now row) ⌝ }
     ensures { λ z. ⌜ (z ≡ acted (recordFrom (now (row .entry)) at) Command.Unobtainable .answer)
-        × (now (row .exit) ≡ settledBy (acted (recordFrom (now (row .entry)) at) Command.Unobtainable) (now (row .entry)) at) ⌝ }
+        × (now (row .exit) ≡ storedBy (acted (recordFrom (now (row .entry)) at) Command.Unobtainable) (now (row .entry)) at) ⌝ }
 {
     let v = end_at(row, at, Side::Callee).answer(State::Unlinking);
     three_sent(row, at, v, Status::Unknown)
@@ -270,7 +270,7 @@ fn unobtainable(row: &mut [u8], at: usize) -> Answer
 fn send(row: &mut [u8], at: usize, s: Side, tunnel: u8, status: Status) -> Answer
     requires { ⌜ at + 102 ≤ length (now row) ⌝ }
     ensures { λ z. ⌜ (z ≡ acted (recordFrom (now (row .entry)) at) (Command.Send s tunnel status) .answer)
-        × (now (row .exit) ≡ settledBy (acted (recordFrom (now (row .entry)) at) (Command.Send s tunnel status)) (now (row .entry)) at) ⌝ }
+        × (now (row .exit) ≡ storedBy (acted (recordFrom (now (row .entry)) at) (Command.Send s tunnel status)) (now (row .entry)) at) ⌝ }
 {
     let q = at + queue_from(s);
     let waiting = row[q];
@@ -281,7 +281,7 @@ fn send(row: &mut [u8], at: usize, s: Side, tunnel: u8, status: Status) -> Answe
 fn teardown(row: &mut [u8], at: usize, s: Side) -> Answer
     requires { ⌜ at + 102 ≤ length (now row) ⌝ }
     ensures { λ z. ⌜ (z ≡ acted (recordFrom (now (row .entry)) at) (Command.Teardown s) .answer)
-        × (now (row .exit) ≡ settledBy (acted (recordFrom (now (row .entry)) at) (Command.Teardown s)) (now (row .entry)) at) ⌝ }
+        × (now (row .exit) ≡ storedBy (acted (recordFrom (now (row .entry)) at) (Command.Teardown s)) (now (row .entry)) at) ⌝ }
 {
     let v = end_at(row, at, s).tear();
     one_sent(row, at, s, v, Signal::Teardown)
@@ -302,7 +302,7 @@ fn given(row: &mut [u8], at: usize, s: Side, e: End)
 fn replied(row: &mut [u8], at: usize, s: Side, e: End, x: Signal) -> Answer
     requires { ⌜ (at + 102 ≤ length (now row)) × (0 < queueTo s (recordFrom (now row) at) .count) ⌝ }
     ensures { λ z. ⌜ (z ≡ replied (recordFrom (now (row .entry)) at) s e x .answer)
-        × (now (row .exit) ≡ settledBy (replied (recordFrom (now (row .entry)) at) s e x) (now (row .entry)) at) ⌝ }
+        × (now (row .exit) ≡ storedBy (replied (recordFrom (now (row .entry)) at) s e x) (now (row .entry)) at) ⌝ }
 {
     match x {
         Signal::Upack => given(row, at, s, e),
@@ -323,7 +323,7 @@ fn replied(row: &mut [u8], at: usize, s: Side, e: End, x: Signal) -> Answer
 fn deliver(row: &mut [u8], at: usize, s: Side) -> Answer
     requires { ⌜ (at + 102 ≤ length (now row)) × (queueTo (other s) (recordFrom (now row) at) .count ≤ 16) ⌝ }
     ensures { λ z. ⌜ (z ≡ acted (recordFrom (now (row .entry)) at) (Command.Deliver s) .answer)
-        × (now (row .exit) ≡ settledBy (acted (recordFrom (now (row .entry)) at) (Command.Deliver s)) (now (row .entry)) at) ⌝ }
+        × (now (row .exit) ≡ storedBy (acted (recordFrom (now (row .entry)) at) (Command.Deliver s)) (now (row .entry)) at) ⌝ }
 {
     let q = at + queue_to(s);
     if row[q] == 0 {
@@ -341,7 +341,7 @@ fn deliver(row: &mut [u8], at: usize, s: Side) -> Answer
 fn step_in(row: &mut [u8], at: usize, k: Command) -> Answer
     requires { ⌜ at + 102 ≤ length (now row) ⌝ }
     ensures { λ z. ⌜ (z ≡ step (recordFrom (now (row .entry)) at) k .answer)
-        × (now (row .exit) ≡ settledBy (step (recordFrom (now (row .entry)) at) k) (now (row .entry)) at) ⌝ }
+        × (now (row .exit) ≡ storedBy (step (recordFrom (now (row .entry)) at) k) (now (row .entry)) at) ⌝ }
 {
     if 16 < row[at + 4] {
         return Answer::Refused(Refusal::BrokenRecord);

@@ -209,22 +209,12 @@ fn boxes_sound(s: Subscriber) -> bool
 pub fn own_sound(t: Types, s: Subscriber) -> bool
     ensures { λ r. ⌜ r ≡ ownSound t s ⌝ }
 {
-    if !kind_known(s) {
-        return false;
-    }
-    if !address_given(s) {
-        return false;
-    }
-    if !count_fits(s) {
-        return false;
-    }
-    if !sets_in_choices(t, s) {
-        return false;
-    }
-    if !reversible_twice(t, s) {
-        return false;
-    }
-    boxes_sound(s)
+    kind_known(s)
+        & address_given(s)
+        & count_fits(s)
+        & sets_in_choices(t, s)
+        & reversible_twice(t, s)
+        & boxes_sound(s)
 }
 
 // Whether both hold. Both are worked out before the call, so the compiler makes no branch: a branch would pass over the second test, and one that the machine guesses wrong

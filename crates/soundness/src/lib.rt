@@ -82,8 +82,7 @@ fn take_number(taken: &mut [u32; 4096], kind: u8, n: u16)
     taken[i] = typeset::join(word, (kind as u32) << bits_of(n));
 }
 
-// The subscriber takes its box numbers; of the kinds that have any, 1 to 3. What another kind would enter is in the definition, and no caller enters one. Where there is no second
-// number, nothing is gone through.
+// Marks the subscriber's box numbers as taken. Lines, trunks and resources have some; mobiles have none.
 pub fn claim(taken: &mut [u32; 4096], s: Subscriber)
     ensures { λ r. ⌜ now (taken .exit) ≡ claimed (now (taken .entry)) s ⌝ }
 {

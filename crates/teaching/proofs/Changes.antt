@@ -96,7 +96,7 @@ changes =
     -- a box number past the count; a subscriber past the count
     ∷ change (20 ∷ []) (withSubscriber 3 (subscriber 2 556 0 0 (9 ∷ 0 ∷ 0 ∷ 0 ∷ []) 0))
     ∷ change (20 ∷ []) (withSubscriber 6 (subscriber 4 901 0 0 (0 ∷ 0 ∷ 0 ∷ 0 ∷ []) 0))
-    -- two trunks may share a number, and one reversible type needs no order
+    -- two trunks may share a number
     ∷ change [] (withSubscriber 3 (subscriber 2 556 0 0 (40 ∷ 0 ∷ 0 ∷ 0 ∷ []) 1))
     ∷ []
 

@@ -1,4 +1,4 @@
--- The laws of `preceded`, `first` and `next` (`Order.antt`), and the steps of the loop that makes `preceded`. Assumes nothing.
+-- The laws of `preceded`, `unpreceded` and `next` (`Order.antt`), and the steps of the loop that makes `preceded`. Assumes nothing.
 use mathlib.Core.Path.{_≡_, sym, ap, _∙_}
 use mathlib.Core.Bool.{Bool, true, false, not, _&&_, _||_, or-false, or-assoc}
 use mathlib.Core.List.{List}

@@ -7,24 +7,12 @@ use borrow.Author.Needs.{needs}
 use Rattle.callbytes.proofs.call_at.Statement.{statement}
 use Rattle.callbytes.proofs.call_at.Tie as tie
 
-cleared-requires : tie.Need-cleared-requires
-cleared-requires c κs = search needs
-
 returns : tie.Need-returns
 returns c = c .cleared .ensures ∙ sym (past-end (c .before .before .before .args .b .now) (c .before .before .before .args .at) (c .before .if1 .taken))
-
-sub-if2 : tie.Need-sub-if2
-sub-if2 c = search needs
-
-cleared-requires-2 : tie.Need-cleared-requires-2
-cleared-requires-2 c κs = search needs
 
 returns-2 : tie.Need-returns-2
 unfolding callAt
 returns-2 c = rw (lt-ltb _ 102 (c .before .if2 .taken)) (c .cleared2 .ensures)
-
-read-from-requires : tie.Need-read-from-requires
-read-from-requires c κs = search needs
 
 returns-3 : tie.Need-returns-3
 unfolding callAt
@@ -34,10 +22,10 @@ pub call-at-spec : {M : Type 1} → statement M
 call-at-spec =
     tie.close
     (tie.spec
-    cleared-requires
+    (λ c κs. search needs)
     returns
-    sub-if2
-    cleared-requires-2
+    (λ c. search needs)
+    (λ c κs. search needs)
     returns-2
-    read-from-requires
+    (λ c κs. search needs)
     returns-3)

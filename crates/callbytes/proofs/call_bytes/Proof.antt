@@ -10,23 +10,11 @@ use borrow.Author.Needs.{needs}
 use Rattle.callbytes.proofs.call_bytes.Statement.{statement}
 use Rattle.callbytes.proofs.call_bytes.Tie as tie
 
-state-number-requires : tie.Need-state-number-requires
-state-number-requires c κs = search needs
-
-state-number-requires-2 : tie.Need-state-number-requires-2
-state-number-requires-2 c κs = search needs
-
-put-head-requires : tie.Need-put-head-requires
-put-head-requires c κs = search needs
-
 put-slots-requires : tie.Need-put-slots-requires
 unfolding high
 put-slots-requires c κs =
     let k = c .before .before .before .before .before .before .before .before .before .before .before .args .c in
     (omega arith, blank-first (c .before .before .before .before .state-number .result ∷ c .before .before .before .state-number2 .result ∷ high 2 (k .«use_number») ++ (k .«to_caller» .count ∷ [])) refl (c .before .put-head .ensures))
-
-put-count-requires : tie.Need-put-count-requires
-put-count-requires c κs = search needs
 
 put-slots-requires-2 : tie.Need-put-slots-requires-2
 unfolding high
@@ -45,10 +33,10 @@ pub call-bytes-spec : {M : Type 1} → statement M
 call-bytes-spec =
     tie.close
     (tie.spec
-    state-number-requires
-    state-number-requires-2
-    put-head-requires
+    (λ c κs. search needs)
+    (λ c κs. search needs)
+    (λ c κs. search needs)
     put-slots-requires
-    put-count-requires
+    (λ c κs. search needs)
     put-slots-requires-2
     returns)

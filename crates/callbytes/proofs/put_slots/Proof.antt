@@ -60,9 +60,6 @@ mul-s-2 c = omega arith
 array-copy-out-s : tie.Need-array-copy-out-s Inv-loop2 μ-loop2 Inv-loop3 μ-loop3 Inv-loop μ-loop
 array-copy-out-s c = omega arith
 
-speaks-requires : tie.Need-speaks-requires Inv-loop2 μ-loop2 Inv-loop3 μ-loop3 Inv-loop μ-loop
-speaks-requires c κs = search needs
-
 add-i : tie.Need-add-i Inv-loop2 μ-loop2 Inv-loop3 μ-loop3 Inv-loop μ-loop
 add-i c = omega arith
 
@@ -100,9 +97,6 @@ mul-s-3 c = omega arith
 array-copy-out-s-2 :
     tie.Need-array-copy-out-s-2 Inv-loop2 μ-loop2 Inv-loop3 μ-loop3 Inv-loop μ-loop
 array-copy-out-s-2 c = omega arith
-
-speaks-requires-2 : tie.Need-speaks-requires-2 Inv-loop2 μ-loop2 Inv-loop3 μ-loop3 Inv-loop μ-loop
-speaks-requires-2 c κs = search needs
 
 mul-put-slot : tie.Need-mul-put-slot Inv-loop2 μ-loop2 Inv-loop3 μ-loop3 Inv-loop μ-loop
 mul-put-slot c = omega arith
@@ -187,7 +181,7 @@ put-slots-spec =
     add-s
     mul-s-2
     array-copy-out-s
-    speaks-requires
+    (λ c κs. search needs)
     add-i
     loop2-less
     loop2-again
@@ -197,7 +191,7 @@ put-slots-spec =
     loop3-holds
     mul-s-3
     array-copy-out-s-2
-    speaks-requires-2
+    (λ c κs. search needs)
     mul-put-slot
     add-put-slot
     put-slot-requires

@@ -8,12 +8,6 @@ use Rattle.commanding.proofs.commanded.Tie as tie
 returns : tie.Need-returns
 returns c = rw (lt-ltb _ _ (c .if1 .taken))
 
-answers-to-requires : tie.Need-answers-to-requires
-answers-to-requires c κs = search needs
-
-step-requires : tie.Need-step-requires
-step-requires c κs = search needs
-
 returns-2 : tie.Need-returns-2
 returns-2 c = rw (le-ltb _ _ (c .before .before .before .if1 .left), sym (c .before .before .answers-to .ensures) ∙ (c .before .if2 .taken)) (c .step .ensures)
 
@@ -21,4 +15,4 @@ returns-3 : tie.Need-returns-3
 returns-3 c = rw (le-ltb _ _ (c .before .before .if1 .left), sym (c .before .answers-to .ensures) ∙ (c .if2 .left))
 
 pub commanded-spec : {M : Type 1} → statement M
-commanded-spec = tie.close (tie.spec returns answers-to-requires step-requires returns-2 returns-3)
+commanded-spec = tie.close (tie.spec returns (λ c κs. search needs) (λ c κs. search needs) returns-2 returns-3)

@@ -13,23 +13,11 @@ returns-2 c = rw (ne-eqb _ 0 (c .before .if1 .left), eq-eqb _ 1 (c .if2 .taken))
 returns-3 : tie.Need-returns-3
 returns-3 c = rw (ne-eqb _ 0 (c .before .before .if1 .left), ne-eqb _ 1 (c .before .if2 .left), eq-eqb _ 2 (c .if3 .taken))
 
-side-of-requires : tie.Need-side-of-requires
-side-of-requires c κs = search needs
-
-status-of-requires : tie.Need-status-of-requires
-status-of-requires c κs = search needs
-
 returns-4 : tie.Need-returns-4
 returns-4 c = rw (ne-eqb _ 0 (c .before .before .before .before .before .if1 .left), ne-eqb _ 1 (c .before .before .before .before .if2 .left), ne-eqb _ 2 (c .before .before .before .if3 .left), eq-eqb _ 3 (c .before .before .if4 .taken), c .status-of .ensures, c .before .side-of .ensures)
 
-side-of-requires-2 : tie.Need-side-of-requires-2
-side-of-requires-2 c κs = search needs
-
 returns-5 : tie.Need-returns-5
 returns-5 c = rw (ne-eqb _ 0 (c .before .before .before .before .before .if1 .left), ne-eqb _ 1 (c .before .before .before .before .if2 .left), ne-eqb _ 2 (c .before .before .before .if3 .left), ne-eqb _ 3 (c .before .before .if4 .left), eq-eqb _ 4 (c .before .if5 .taken), c .side-of2 .ensures)
-
-side-of-requires-3 : tie.Need-side-of-requires-3
-side-of-requires-3 c κs = search needs
 
 returns-6 : tie.Need-returns-6
 returns-6 c = rw (ne-eqb _ 0 (c .before .before .before .before .before .if1 .left), ne-eqb _ 1 (c .before .before .before .before .if2 .left), ne-eqb _ 2 (c .before .before .before .if3 .left), ne-eqb _ 3 (c .before .before .if4 .left), ne-eqb _ 4 (c .before .if5 .left), c .side-of3 .ensures)
@@ -41,10 +29,10 @@ command-of-spec =
     returns
     returns-2
     returns-3
-    side-of-requires
-    status-of-requires
+    (λ c κs. search needs)
+    (λ c κs. search needs)
     returns-4
-    side-of-requires-2
+    (λ c κs. search needs)
     returns-5
-    side-of-requires-3
+    (λ c κs. search needs)
     returns-6)

@@ -3,39 +3,6 @@ use borrow.Author.Needs.{needs}
 use Rattle.dfc.proofs.commanded_said.Statement.{statement}
 use Rattle.dfc.proofs.commanded_said.Tie as tie
 
-enum-told : tie.Need-enum-told
-enum-told c = search needs
-
-enum-known-a : tie.Need-enum-known-a
-enum-known-a c = search needs
-
-signal-number-requires : tie.Need-signal-number-requires
-signal-number-requires c κs = search needs
-
-wide-8-requires : tie.Need-wide-8-requires
-wide-8-requires c κs = search needs
-
-signal-tunnel-requires : tie.Need-signal-tunnel-requires
-signal-tunnel-requires c κs = search needs
-
-wide-8-requires-2 : tie.Need-wide-8-requires-2
-wide-8-requires-2 c κs = search needs
-
-signal-code-requires : tie.Need-signal-code-requires
-signal-code-requires c κs = search needs
-
-wide-8-requires-3 : tie.Need-wide-8-requires-3
-wide-8-requires-3 c κs = search needs
-
-enum-known-a-2 : tie.Need-enum-known-a-2
-enum-known-a-2 c = search needs
-
-number-requires : tie.Need-number-requires
-number-requires c κs = search needs
-
-wide-8-requires-4 : tie.Need-wide-8-requires-4
-wide-8-requires-4 c κs = search needs
-
 returns : tie.Need-returns
 returns c = rw (c .enum-told .given .1)
 
@@ -49,17 +16,17 @@ pub commanded-said-spec : {M : Type 1} → statement M
 commanded-said-spec =
     tie.close
     (tie.spec
-    enum-told
-    enum-known-a
-    signal-number-requires
-    wide-8-requires
-    signal-tunnel-requires
-    wide-8-requires-2
-    signal-code-requires
-    wide-8-requires-3
-    enum-known-a-2
-    number-requires
-    wide-8-requires-4
+    (λ c. search needs)
+    (λ c. search needs)
+    (λ c κs. search needs)
+    (λ c κs. search needs)
+    (λ c κs. search needs)
+    (λ c κs. search needs)
+    (λ c κs. search needs)
+    (λ c κs. search needs)
+    (λ c. search needs)
+    (λ c κs. search needs)
+    (λ c κs. search needs)
     returns
     returns-2
     returns-3)

@@ -5,21 +5,6 @@ use borrow.Author.Needs.{needs}
 use Rattle.dfc.proofs.dfc_check.Statement.{statement}
 use Rattle.dfc.proofs.dfc_check.Tie as tie
 
-verdict-requires : tie.Need-verdict-requires
-verdict-requires c κs = search needs
-
-enum-told : tie.Need-enum-told
-enum-told c = search needs
-
-accepted-requires : tie.Need-accepted-requires
-accepted-requires c κs = search needs
-
-enum-known-answer : tie.Need-enum-known-answer
-enum-known-answer c = search needs
-
-refused-requires : tie.Need-refused-requires
-refused-requires c κs = search needs
-
 returns : tie.Need-returns
 unfolding checked
 returns c = rw (sym (c .before .before .before .verdict .ensures .0) ∙ c .before .enum-told .given .1) (c .accepted .ensures)
@@ -32,10 +17,10 @@ pub dfc-check-spec : {M : Type 1} → statement M
 dfc-check-spec =
     tie.close
     (tie.spec
-    verdict-requires
-    enum-told
-    accepted-requires
-    enum-known-answer
-    refused-requires
+    (λ c κs. search needs)
+    (λ c. search needs)
+    (λ c κs. search needs)
+    (λ c. search needs)
+    (λ c κs. search needs)
     returns
     returns-2)

@@ -7,30 +7,6 @@ use borrow.Author.Needs.{needs}
 use Rattle.dfc.proofs.dfc_new.Statement.{statement}
 use Rattle.dfc.proofs.dfc_new.Tie as tie
 
-maker-of-requires : tie.Need-maker-of-requires
-maker-of-requires c κs = search needs
-
-box-address-requires : tie.Need-box-address-requires
-box-address-requires c κs = search needs
-
-scan-requires : tie.Need-scan-requires
-scan-requires c κs = search needs
-
-enum-told : tie.Need-enum-told
-enum-told c = search needs
-
-new-seen-requires : tie.Need-new-seen-requires
-new-seen-requires c κs = search needs
-
-handed-requires : tie.Need-handed-requires
-handed-requires c κs = search needs
-
-enum-known-verdict : tie.Need-enum-known-verdict
-enum-known-verdict c = search needs
-
-refused-requires : tie.Need-refused-requires
-refused-requires c κs = search needs
-
 returns : tie.Need-returns
 unfolding making roomMaking newOver
 returns c =
@@ -49,13 +25,13 @@ pub dfc-new-spec : {M : Type 1} → statement M
 dfc-new-spec =
     tie.close
     (tie.spec
-    maker-of-requires
-    box-address-requires
-    scan-requires
-    enum-told
-    new-seen-requires
-    handed-requires
-    enum-known-verdict
-    refused-requires
+    (λ c κs. search needs)
+    (λ c κs. search needs)
+    (λ c κs. search needs)
+    (λ c. search needs)
+    (λ c κs. search needs)
+    (λ c κs. search needs)
+    (λ c. search needs)
+    (λ c κs. search needs)
     returns
     returns-2)

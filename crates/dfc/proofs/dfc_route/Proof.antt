@@ -7,36 +7,6 @@ use borrow.Author.Needs.{needs}
 use Rattle.dfc.proofs.dfc_route.Statement.{statement}
 use Rattle.dfc.proofs.dfc_route.Tie as tie
 
-setup-in-requires : tie.Need-setup-in-requires
-setup-in-requires c κs = search needs
-
-extracted-requires : tie.Need-extracted-requires
-extracted-requires c κs = search needs
-
-scan-requires : tie.Need-scan-requires
-scan-requires c κs = search needs
-
-enum-told : tie.Need-enum-told
-enum-told c = search needs
-
-route-seen-requires : tie.Need-route-seen-requires
-route-seen-requires c κs = search needs
-
-received-requires : tie.Need-received-requires
-received-requires c κs = search needs
-
-enum-known-verdict : tie.Need-enum-known-verdict
-enum-known-verdict c = search needs
-
-not-routed-requires : tie.Need-not-routed-requires
-not-routed-requires c κs = search needs
-
-same-length : tie.Need-same-length
-same-length c = search needs
-
-same-length-2 : tie.Need-same-length-2
-same-length-2 c = search needs
-
 returns : tie.Need-returns
 unfolding routed roomRouted sourceRouted targetRouted
 returns c =
@@ -59,15 +29,15 @@ pub dfc-route-spec : {M : Type 1} → statement M
 dfc-route-spec =
     tie.close
     (tie.spec
-    setup-in-requires
-    extracted-requires
-    scan-requires
-    enum-told
-    route-seen-requires
-    received-requires
-    enum-known-verdict
-    not-routed-requires
-    same-length
-    same-length-2
+    (λ c κs. search needs)
+    (λ c κs. search needs)
+    (λ c κs. search needs)
+    (λ c. search needs)
+    (λ c κs. search needs)
+    (λ c κs. search needs)
+    (λ c. search needs)
+    (λ c κs. search needs)
+    (λ c. search needs)
+    (λ c. search needs)
     returns
     returns-2)

@@ -8,15 +8,6 @@ use borrow.Author.Needs.{needs}
 use Rattle.dfc.proofs.dfc_write.Statement.{statement}
 use Rattle.dfc.proofs.dfc_write.Tie as tie
 
-rewrite-requires : tie.Need-rewrite-requires
-rewrite-requires c κs = search needs
-
-written-said-requires : tie.Need-written-said-requires
-written-said-requires c κs = search needs
-
-same-length : tie.Need-same-length
-same-length c = search needs
-
 returns : tie.Need-returns
 returns c = (
   c .written-said .ensures ∙ ap writtenSaid (c .before .before .before .rewrite .ensures .0) ∙ written-over (c .before .before .before .before .before .before .before .args .file .now) (c .before .before .before .before .before .before .before .args .room .now),
@@ -27,7 +18,7 @@ pub dfc-write-spec : {M : Type 1} → statement M
 dfc-write-spec =
     tie.close
     (tie.spec
-    rewrite-requires
-    written-said-requires
-    same-length
+    (λ c κs. search needs)
+    (λ c κs. search needs)
+    (λ c. search needs)
     returns)

@@ -10,33 +10,6 @@ use borrow.Author.Needs.{needs}
 use Rattle.dfc.proofs.dfc_zone.Statement.{statement}
 use Rattle.dfc.proofs.dfc_zone.Tie as tie
 
-scan-requires : tie.Need-scan-requires
-scan-requires c κs = search needs
-
-enum-told : tie.Need-enum-told
-enum-told c = search needs
-
-region-of-requires : tie.Need-region-of-requires
-region-of-requires c κs = search needs
-
-zone-shown-requires : tie.Need-zone-shown-requires
-zone-shown-requires c κs = search needs
-
-types-of-requires : tie.Need-types-of-requires
-types-of-requires c κs = search needs
-
-cast-accepted : tie.Need-cast-accepted
-cast-accepted c = search needs
-
-accepted-requires : tie.Need-accepted-requires
-accepted-requires c κs = search needs
-
-enum-known-verdict : tie.Need-enum-known-verdict
-enum-known-verdict c = search needs
-
-refused-requires : tie.Need-refused-requires
-refused-requires c κs = search needs
-
 returns : tie.Need-returns
 unfolding zoned typesZoned held
 returns c =
@@ -56,14 +29,14 @@ pub dfc-zone-spec : {M : Type 1} → statement M
 dfc-zone-spec =
     tie.close
     (tie.spec
-    scan-requires
-    enum-told
-    region-of-requires
-    zone-shown-requires
-    types-of-requires
-    cast-accepted
-    accepted-requires
-    enum-known-verdict
-    refused-requires
+    (λ c κs. search needs)
+    (λ c. search needs)
+    (λ c κs. search needs)
+    (λ c κs. search needs)
+    (λ c κs. search needs)
+    (λ c. search needs)
+    (λ c κs. search needs)
+    (λ c. search needs)
+    (λ c κs. search needs)
     returns
     returns-2)

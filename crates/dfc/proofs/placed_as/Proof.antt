@@ -3,14 +3,8 @@ use borrow.Author.Needs.{needs}
 use Rattle.dfc.proofs.placed_as.Statement.{statement}
 use Rattle.dfc.proofs.placed_as.Tie as tie
 
-wide-size-requires : tie.Need-wide-size-requires
-wide-size-requires c κs = search needs
-
-wide-16-requires : tie.Need-wide-16-requires
-wide-16-requires c κs = search needs
-
 returns : tie.Need-returns
 returns c = rw (c .wide-16 .ensures, c .before .wide-size .ensures)
 
 pub placed-as-spec : {M : Type 1} → statement M
-placed-as-spec = tie.close (tie.spec wide-size-requires wide-16-requires returns)
+placed-as-spec = tie.close (tie.spec (λ c κs. search needs) (λ c κs. search needs) returns)

@@ -12,18 +12,6 @@ use borrow.Author.Needs.{needs}
 use Rattle.dfc.proofs.zone_shown.Statement.{statement}
 use Rattle.dfc.proofs.zone_shown.Tie as tie
 
-enum-told : tie.Need-enum-told
-enum-told c = search needs
-
-zone-of-requires : tie.Need-zone-of-requires
-zone-of-requires c κs = search needs
-
-enum-told-2 : tie.Need-enum-told-2
-enum-told-2 c = search needs
-
-zone-of-requires-2 : tie.Need-zone-of-requires-2
-zone-of-requires-2 c κs = search needs
-
 returns : tie.Need-returns
 returns c p first second e =
     let same =
@@ -44,9 +32,9 @@ pub zone-shown-spec : {M : Type 1} → statement M
 zone-shown-spec =
     tie.close
     (tie.spec
-    enum-told
-    zone-of-requires
-    enum-told-2
-    zone-of-requires-2
+    (λ c. search needs)
+    (λ c κs. search needs)
+    (λ c. search needs)
+    (λ c κs. search needs)
     returns
     returns-2)

@@ -11,9 +11,6 @@ use borrow.Author.Needs.{needs}
 use Rattle.embedded.proofs.embedded_in.Statement.{statement}
 use Rattle.embedded.proofs.embedded_in.Tie as tie
 
-skipped-requires : tie.Need-skipped-requires
-skipped-requires c κs = search needs
-
 sub-written : tie.Need-sub-written
 sub-written c = rw (c .skipped .ensures) (code-inside (c .before .before .args .s .now))
 
@@ -21,12 +18,6 @@ part-written-start : tie.Need-part-written-start
 part-written-start c =
     let inside : c .skipped .result ≤ length (c .before .before .args .s .now) = rw (c .skipped .ensures) (code-inside (c .before .before .args .s .now)) in
     omega arith
-
-part-written-end : tie.Need-part-written-end
-part-written-end c = search needs
-
-written-requires : tie.Need-written-requires
-written-requires c κs = search needs
 
 returns : tie.Need-returns
 unfolding embedded afterCode
@@ -38,9 +29,9 @@ pub embedded-in-spec : {M : Type 1} → statement M
 embedded-in-spec =
     tie.close
     (tie.spec
-    skipped-requires
+    (λ c κs. search needs)
     sub-written
     part-written-start
-    part-written-end
-    written-requires
+    (λ c. search needs)
+    (λ c κs. search needs)
     returns)

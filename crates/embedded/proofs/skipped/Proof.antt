@@ -13,28 +13,13 @@ returns : tie.Need-returns
 unfolding skipped
 returns c = rw (no-code _ (c .if1 .taken))
 
-shared-slice-read-if2 : tie.Need-shared-slice-read-if2
-shared-slice-read-if2 c = search needs
-
 returns-2 : tie.Need-returns-2
 unfolding skipped coded
 returns-2 c = rw (ne-eqb _ 42 (c .if2 .taken))
 
-shared-slice-read-digit : tie.Need-shared-slice-read-digit
-shared-slice-read-digit c = search needs
-
-digit-requires : tie.Need-digit-requires
-digit-requires c κs = search needs
-
 returns-3 : tie.Need-returns-3
 unfolding skipped coded
 returns-3 c = rw (eq-eqb _ 42 (c .before .before .before .if2 .left), failed (c .before .digit .ensures) (c .if3 .taken))
-
-shared-slice-read-digit-2 : tie.Need-shared-slice-read-digit-2
-shared-slice-read-digit-2 c = search needs
-
-digit-requires-2 : tie.Need-digit-requires-2
-digit-requires-2 c κs = search needs
 
 returns-4 : tie.Need-returns-4
 unfolding skipped coded
@@ -49,12 +34,12 @@ skipped-spec =
     tie.close
     (tie.spec
     returns
-    shared-slice-read-if2
+    (λ c. search needs)
     returns-2
-    shared-slice-read-digit
-    digit-requires
+    (λ c. search needs)
+    (λ c κs. search needs)
     returns-3
-    shared-slice-read-digit-2
-    digit-requires-2
+    (λ c. search needs)
+    (λ c κs. search needs)
     returns-4
     returns-5)

@@ -16,9 +16,6 @@ returns-2 : tie.Need-returns-2
 unfolding writesAddress
 returns-2 c = rw (le-leb 1 _ (c .before .if1 .left), lt-leb _ 9 (c .if2 .taken))
 
-all-digits-requires : tie.Need-all-digits-requires
-all-digits-requires c κs = search needs
-
 returns-3 : tie.Need-returns-3
 unfolding writesAddress
 returns-3 c = rw (le-leb 1 _ (c .before .before .before .if1 .left), le-leb _ 9 (c .before .before .if2 .left), failed (c .before .all-digits .ensures) (c .if3 .taken))
@@ -49,4 +46,4 @@ returns-5 c =
 pub written-spec : {M : Type 1} → statement M
 written-spec =
     tie.close
-    (tie.spec returns returns-2 all-digits-requires returns-3 number-requires returns-4 returns-5)
+    (tie.spec returns returns-2 (λ c κs. search needs) returns-3 number-requires returns-4 returns-5)

@@ -7,29 +7,17 @@ use borrow.Author.Needs.{needs}
 use Rattle.faults.proofs.fault_in.Statement.{statement}
 use Rattle.faults.proofs.fault_in.Tie as tie
 
-in-range-requires : tie.Need-in-range-requires
-in-range-requires c κs = search needs
-
 returns : tie.Need-returns
 unfolding faultIn
 returns c = rw (failed (c .before .in-range .ensures) (c .if1 .taken))
-
-routing-address-requires : tie.Need-routing-address-requires
-routing-address-requires c κs = search needs
 
 returns-2 : tie.Need-returns-2
 unfolding faultIn
 returns-2 c = rw (passed (c .before .before .before .in-range .ensures) (c .before .before .if1 .left), eq-eqb _ 0 (sym (c .before .routing-address .ensures) ∙ c .if2 .taken))
 
-route-fits-requires : tie.Need-route-fits-requires
-route-fits-requires c κs = search needs
-
 returns-3 : tie.Need-returns-3
 unfolding faultIn
 returns-3 c = rw (passed (c .before .before .before .before .before .in-range .ensures) (c .before .before .before .before .if1 .left), ne-eqb _ 0 (λ z. c .before .before .if2 .left (c .before .before .before .routing-address .ensures ∙ z)), failed (c .before .route-fits .ensures) (c .if3 .taken))
-
-placing-fits-requires : tie.Need-placing-fits-requires
-placing-fits-requires c κs = search needs
 
 returns-4 : tie.Need-returns-4
 unfolding faultIn
@@ -40,9 +28,6 @@ returns-4 c =
       passed (c .before .before .before .route-fits .ensures) (c .before .before .if3 .left),
       failed (c .before .placing-fits .ensures) (c .if4 .taken),
     )
-
-outer-fits-requires : tie.Need-outer-fits-requires
-outer-fits-requires c κs = search needs
 
 returns-5 : tie.Need-returns-5
 unfolding faultIn
@@ -70,14 +55,14 @@ pub fault-in-spec : {M : Type 1} → statement M
 fault-in-spec =
     tie.close
     (tie.spec
-    in-range-requires
+    (λ c κs. search needs)
     returns
-    routing-address-requires
+    (λ c κs. search needs)
     returns-2
-    route-fits-requires
+    (λ c κs. search needs)
     returns-3
-    placing-fits-requires
+    (λ c κs. search needs)
     returns-4
-    outer-fits-requires
+    (λ c κs. search needs)
     returns-5
     returns-6)

@@ -10,15 +10,6 @@ use borrow.Author.Needs.{needs}
 use Rattle.faults.proofs.fault_of.Statement.{statement}
 use Rattle.faults.proofs.fault_of.Tie as tie
 
-routing-address-requires : tie.Need-routing-address-requires
-routing-address-requires c κs = search needs
-
-zone-asked-requires : tie.Need-zone-asked-requires
-zone-asked-requires c κs = search needs
-
-fault-in-requires : tie.Need-fault-in-requires
-fault-in-requires c κs = search needs
-
 returns : tie.Need-returns
 unfolding fault listOf
 returns c =
@@ -28,4 +19,4 @@ returns c =
 
 pub fault-of-spec : {M : Type 1} → statement M
 fault-of-spec =
-    tie.close (tie.spec routing-address-requires zone-asked-requires fault-in-requires returns)
+    tie.close (tie.spec (λ c κs. search needs) (λ c κs. search needs) (λ c κs. search needs) returns)

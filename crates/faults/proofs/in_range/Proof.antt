@@ -5,15 +5,9 @@ use borrow.Author.Needs.{needs}
 use Rattle.faults.proofs.in_range.Statement.{statement}
 use Rattle.faults.proofs.in_range.Tie as tie
 
-legal-requires : tie.Need-legal-requires
-legal-requires c κs = search needs
-
 returns : tie.Need-returns
 unfolding inRange
 returns c = rw (failed (c .before .legal .ensures) (c .if1 .taken))
-
-legal-requires-2 : tie.Need-legal-requires-2
-legal-requires-2 c κs = search needs
 
 returns-2 : tie.Need-returns-2
 unfolding inRange
@@ -23,9 +17,6 @@ returns-2 c =
       failed (c .before .legal2 .ensures) (c .if2 .taken),
     )
 
-outer-legal-requires : tie.Need-outer-legal-requires
-outer-legal-requires c κs = search needs
-
 returns-3 : tie.Need-returns-3
 unfolding inRange
 returns-3 c =
@@ -34,9 +25,6 @@ returns-3 c =
       passed (c .before .before .before .legal2 .ensures) (c .before .before .if2 .left),
       failed (c .before .outer-legal .ensures) (c .if3 .taken),
     )
-
-legal-dialled-requires : tie.Need-legal-dialled-requires
-legal-dialled-requires c κs = search needs
 
 returns-4 : tie.Need-returns-4
 unfolding inRange
@@ -51,11 +39,11 @@ pub in-range-spec : {M : Type 1} → statement M
 in-range-spec =
     tie.close
     (tie.spec
-    legal-requires
+    (λ c κs. search needs)
     returns
-    legal-requires-2
+    (λ c κs. search needs)
     returns-2
-    outer-legal-requires
+    (λ c κs. search needs)
     returns-3
-    legal-dialled-requires
+    (λ c κs. search needs)
     returns-4)

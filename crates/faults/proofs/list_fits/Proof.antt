@@ -19,15 +19,6 @@ Inv-loop types all n m from i₀ i = (i ≤ n) × (every i (λ k. eqb (getD type
 abbrev μ-loop : tie.MeasureT-loop
 μ-loop types all n m from i₀ i = n - i
 
-cast-n : tie.Need-cast-n Inv-loop μ-loop
-cast-n c = search needs
-
-cast-at-most-32 : tie.Need-cast-at-most-32 Inv-loop μ-loop
-cast-at-most-32 c = search needs
-
-at-most-32-requires : tie.Need-at-most-32-requires Inv-loop μ-loop
-at-most-32-requires c κs = search needs
-
 returns : tie.Need-returns Inv-loop μ-loop
 returns c = sym (list-too-long (c .before .before .before .before .before .before .args .zone) (c .before .before .before .before .before .before .args .list) (c .before .at-most-32 .result) (c .before .at-most-32 .ensures) (search needs) (search needs) (c .if1 .taken))
 
@@ -37,25 +28,10 @@ returns-2 c = sym (list-longer (c .before .before .before .before .before .befor
 loop-holds : tie.Need-loop-holds Inv-loop μ-loop
 loop-holds c = (search needs, every-none _)
 
-array-read-if3 : tie.Need-array-read-if3 Inv-loop μ-loop
-array-read-if3 c = search needs
-
-add-if3 : tie.Need-add-if3 Inv-loop μ-loop
-add-if3 c = search needs
-
-array-read-if3-2 : tie.Need-array-read-if3-2 Inv-loop μ-loop
-array-read-if3-2 c = search needs
-
 returns-3 : tie.Need-returns-3 Inv-loop μ-loop
 returns-3 c =
     sym (list-places (c .before .before .before .before .before .before .before .before .before .before .args .zone) (c .before .before .before .before .before .before .before .before .before .before .args .list) (c .before .before .before .before .before .at-most-32 .result) (c .before .before .before .before .before .at-most-32 .ensures) (search needs) (search needs) (c .before .before .before .before .if1 .left) (c .before .before .before .if2 .left)
     ∙ every-no _ _ _ (c .before .loop-test .taken) (ne-eqb _ _ (c .if3 .taken)))
-
-add-i : tie.Need-add-i Inv-loop μ-loop
-add-i c = search needs
-
-loop-less : tie.Need-loop-less Inv-loop μ-loop
-loop-less c = search needs
 
 loop-again : tie.Need-loop-again Inv-loop μ-loop
 loop-again c = (search needs, every-more _ _ (c .before .before .loop .inv .1) (eq-eqb _ _ (c .if3 .left)))
@@ -72,17 +48,17 @@ list-fits-spec =
     (tie.spec
     Inv-loop
     μ-loop
-    cast-n
-    cast-at-most-32
-    at-most-32-requires
+    (λ c. search needs)
+    (λ c. search needs)
+    (λ c κs. search needs)
     returns
     returns-2
     loop-holds
-    array-read-if3
-    add-if3
-    array-read-if3-2
+    (λ c. search needs)
+    (λ c. search needs)
+    (λ c. search needs)
     returns-3
-    add-i
-    loop-less
+    (λ c. search needs)
+    (λ c. search needs)
     loop-again
     returns-4)

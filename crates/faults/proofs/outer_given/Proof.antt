@@ -5,17 +5,8 @@ use borrow.Author.Needs.{needs}
 use Rattle.faults.proofs.outer_given.Statement.{statement}
 use Rattle.faults.proofs.outer_given.Tie as tie
 
-enum-told : tie.Need-enum-told
-enum-told c = search needs
-
-enum-known-outer : tie.Need-enum-known-outer
-enum-known-outer c = search needs
-
-returns : tie.Need-returns
-returns c = search needs
-
 returns-2 : tie.Need-returns-2
 returns-2 c = sym (ap outerGiven (c .before .outer .given .1))
 
 pub outer-given-spec : {M : Type 1} → statement M
-outer-given-spec = tie.close (tie.spec enum-told enum-known-outer returns returns-2)
+outer-given-spec = tie.close (tie.spec (λ c. search needs) (λ c. search needs) (λ c. search needs) returns-2)

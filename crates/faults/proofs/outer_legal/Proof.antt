@@ -5,20 +5,8 @@ use borrow.Author.Needs.{needs}
 use Rattle.faults.proofs.outer_legal.Statement.{statement}
 use Rattle.faults.proofs.outer_legal.Tie as tie
 
-enum-told : tie.Need-enum-told
-enum-told c = search needs
-
-enum-known-outer : tie.Need-enum-known-outer
-enum-known-outer c = search needs
-
-legal-requires : tie.Need-legal-requires
-legal-requires c κs = search needs
-
-returns : tie.Need-returns
-returns c = search needs
-
 returns-2 : tie.Need-returns-2
 returns-2 c = c .legal .ensures ∙ sym (ap outerLegal (c .before .before .outer .given .1))
 
 pub outer-legal-spec : {M : Type 1} → statement M
-outer-legal-spec = tie.close (tie.spec enum-told enum-known-outer legal-requires returns returns-2)
+outer-legal-spec = tie.close (tie.spec (λ c. search needs) (λ c. search needs) (λ c κs. search needs) (λ c. search needs) returns-2)

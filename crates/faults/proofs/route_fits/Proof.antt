@@ -6,24 +6,6 @@ use borrow.Author.Needs.{needs}
 use Rattle.faults.proofs.route_fits.Statement.{statement}
 use Rattle.faults.proofs.route_fits.Tie as tie
 
-enum-told : tie.Need-enum-told
-enum-told c = search needs
-
-enum-told-2 : tie.Need-enum-told-2
-enum-told-2 c = search needs
-
-enum-told-3 : tie.Need-enum-told-3
-enum-told-3 c = search needs
-
-list-fits-requires : tie.Need-list-fits-requires
-list-fits-requires c κs = search needs
-
-returns : tie.Need-returns
-returns c = search needs
-
-returns-2 : tie.Need-returns-2
-returns-2 c = search needs
-
 returns-3 : tie.Need-returns-3
 returns-3 c =
     let a = c .before .before .before .args in
@@ -33,4 +15,4 @@ returns-3 c =
 pub route-fits-spec : {M : Type 1} → statement M
 route-fits-spec =
     tie.close
-    (tie.spec enum-told enum-told-2 enum-told-3 list-fits-requires returns returns-2 returns-3)
+    (tie.spec (λ c. search needs) (λ c. search needs) (λ c. search needs) (λ c κs. search needs) (λ c. search needs) (λ c. search needs) returns-3)

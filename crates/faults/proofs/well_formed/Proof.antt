@@ -5,15 +5,9 @@ use borrow.Author.Needs.{needs}
 use Rattle.faults.proofs.well_formed.Statement.{statement}
 use Rattle.faults.proofs.well_formed.Tie as tie
 
-fault-of-requires : tie.Need-fault-of-requires
-fault-of-requires c κs = search needs
-
-faultless-requires : tie.Need-faultless-requires
-faultless-requires c κs = search needs
-
 returns : tie.Need-returns
 unfolding wellFormed
 returns c = c .faultless .ensures ∙ ap faultless (c .before .fault-of .ensures)
 
 pub well-formed-spec : {M : Type 1} → statement M
-well-formed-spec = tie.close (tie.spec fault-of-requires faultless-requires returns)
+well-formed-spec = tie.close (tie.spec (λ c κs. search needs) (λ c κs. search needs) returns)

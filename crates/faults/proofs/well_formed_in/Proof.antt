@@ -5,14 +5,8 @@ use borrow.Author.Needs.{needs}
 use Rattle.faults.proofs.well_formed_in.Statement.{statement}
 use Rattle.faults.proofs.well_formed_in.Tie as tie
 
-fault-in-requires : tie.Need-fault-in-requires
-fault-in-requires c κs = search needs
-
-faultless-requires : tie.Need-faultless-requires
-faultless-requires c κs = search needs
-
 returns : tie.Need-returns
 returns c = c .faultless .ensures ∙ ap faultless (c .before .fault-in .ensures)
 
 pub well-formed-in-spec : {M : Type 1} → statement M
-well-formed-in-spec = tie.close (tie.spec fault-in-requires faultless-requires returns)
+well-formed-in-spec = tie.close (tie.spec (λ c κs. search needs) (λ c κs. search needs) returns)

@@ -8,24 +8,6 @@ use borrow.Author.Needs.{needs}
 use Rattle.faults.proofs.zone_asked.Statement.{statement}
 use Rattle.faults.proofs.zone_asked.Tie as tie
 
-enum-told : tie.Need-enum-told
-enum-told c = search needs
-
-empty-list-requires : tie.Need-empty-list-requires
-empty-list-requires c κs = search needs
-
-enum-told-2 : tie.Need-enum-told-2
-enum-told-2 c = search needs
-
-empty-list-requires-2 : tie.Need-empty-list-requires-2
-empty-list-requires-2 c κs = search needs
-
-enum-told-3 : tie.Need-enum-told-3
-enum-told-3 c = search needs
-
-zone-at-requires : tie.Need-zone-at-requires
-zone-at-requires c κs = search needs
-
 returns : tie.Need-returns
 returns c =
     let a = c .before .before .before .args in
@@ -45,12 +27,12 @@ pub zone-asked-spec : {M : Type 1} → statement M
 zone-asked-spec =
     tie.close
     (tie.spec
-    enum-told
-    empty-list-requires
-    enum-told-2
-    empty-list-requires-2
-    enum-told-3
-    zone-at-requires
+    (λ c. search needs)
+    (λ c κs. search needs)
+    (λ c. search needs)
+    (λ c κs. search needs)
+    (λ c. search needs)
+    (λ c κs. search needs)
     returns
     returns-2
     returns-3)

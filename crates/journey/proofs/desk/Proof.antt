@@ -14,15 +14,6 @@ use borrow.Author.Needs.{needs}
 use Rattle.journey.proofs.desk.Statement.{statement}
 use Rattle.journey.proofs.desk.Tie as tie
 
-space-in-requires : tie.Need-space-in-requires
-space-in-requires c κs = search needs
-
-put-refused-requires : tie.Need-put-refused-requires
-put-refused-requires c κs = search needs
-
-same-length : tie.Need-same-length
-same-length c = search needs
-
 returns : tie.Need-returns
 returns c =
     let a = c .before .before .before .before .before .before .before .before .args in
@@ -32,42 +23,12 @@ returns c =
 slice-aggregate-written : tie.Need-slice-aggregate-written
 slice-aggregate-written c = simp length-take (omega (arith, c .before .before .space-in .ensures, space-within (c .before .before .before .before .before .args .line .now)))
 
-written-requires : tie.Need-written-requires
-written-requires c κs = search needs
-
-enum-told : tie.Need-enum-told
-enum-told c = search needs
-
-put-refused-requires-2 : tie.Need-put-refused-requires-2
-put-refused-requires-2 c κs = search needs
-
-enum-known-a : tie.Need-enum-known-a
-enum-known-a c = search needs
-
-add-string : tie.Need-add-string
-add-string c = search needs
-
-sub-string : tie.Need-sub-string
-sub-string c = search needs
-
-part-string-start : tie.Need-part-string-start
-part-string-start c = search needs
-
-part-string-end : tie.Need-part-string-end
-part-string-end c = search needs
-
-new-setup-requires : tie.Need-new-setup-requires
-new-setup-requires c κs = search needs
-
 put-told-requires : tie.Need-put-told-requires
 put-told-requires c κs =
     λ made.
     let a = c .before .before .before .before .before .before .before .before .before .before .before .before .args in
     let said = c .before .new-setup .ensures .0 in
     rw said (new-fine (a .plan) _ _ 0 (rw said at made))
-
-same-length-2 : tie.Need-same-length-2
-same-length-2 c = search needs
 
 returns-2 : tie.Need-returns-2
 unfolding addressText
@@ -77,9 +38,6 @@ returns-2 c =
     let t = take (c .before .before .before .before .before .before .before .before .before .space-in .result) (a .line .now) in
     let nobody = nobody-writes (writesAddress t) (numberFrom 0 t) (sym (c .before .before .before .before .before .before .written .ensures) ∙ c .before .before .before .before .enum-told .given .1) in
     rw (no-address (a .plan) (a .line .now) some (rw (c .before .before .before .before .before .before .before .before .before .space-in .ensures) at nobody)) (c .before .before .put-refused2 .ensures)
-
-same-length-3 : tie.Need-same-length-3
-same-length-3 c = search needs
 
 returns-3 : tie.Need-returns-3
 unfolding addressText stringText
@@ -99,22 +57,22 @@ pub desk-spec : {M : Type 1} → statement M
 desk-spec =
     tie.close
     (tie.spec
-    space-in-requires
-    put-refused-requires
-    same-length
+    (λ c κs. search needs)
+    (λ c κs. search needs)
+    (λ c. search needs)
     returns
     slice-aggregate-written
-    written-requires
-    enum-told
-    put-refused-requires-2
-    enum-known-a
-    add-string
-    sub-string
-    part-string-start
-    part-string-end
-    new-setup-requires
+    (λ c κs. search needs)
+    (λ c. search needs)
+    (λ c κs. search needs)
+    (λ c. search needs)
+    (λ c. search needs)
+    (λ c. search needs)
+    (λ c. search needs)
+    (λ c. search needs)
+    (λ c κs. search needs)
     put-told-requires
-    same-length-2
+    (λ c. search needs)
     returns-2
-    same-length-3
+    (λ c. search needs)
     returns-3)

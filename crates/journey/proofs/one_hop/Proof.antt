@@ -18,27 +18,6 @@ returns c =
     let still : c .before .before .before .before .args .trip .going ≡ false = not-true _ (c .if1 .taken) in
     (rw still, rw still)
 
-routed-requires : tie.Need-routed-requires
-routed-requires c κs = search needs
-
-callee-in-requires : tie.Need-callee-in-requires
-callee-in-requires c κs = search needs
-
-cast-put-line : tie.Need-cast-put-line
-cast-put-line c = search needs
-
-put-line-requires : tie.Need-put-line-requires
-put-line-requires c κs = search needs
-
-sent-on-requires : tie.Need-sent-on-requires
-sent-on-requires c κs = search needs
-
-is-feature-requires : tie.Need-is-feature-requires
-is-feature-requires c κs = search needs
-
-same-length : tie.Need-same-length
-same-length c = search needs
-
 returns-2 : tie.Need-returns-2
 unfolding hopped hopText onTheWay lineOf
 returns-2 c =
@@ -54,11 +33,11 @@ one-hop-spec =
     tie.close
     (tie.spec
     returns
-    routed-requires
-    callee-in-requires
-    cast-put-line
-    put-line-requires
-    sent-on-requires
-    is-feature-requires
-    same-length
+    (λ c κs. search needs)
+    (λ c κs. search needs)
+    (λ c. search needs)
+    (λ c κs. search needs)
+    (λ c κs. search needs)
+    (λ c κs. search needs)
+    (λ c. search needs)
     returns-2)

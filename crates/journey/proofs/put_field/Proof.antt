@@ -11,18 +11,9 @@ use borrow.Author.Needs.{needs}
 use Rattle.journey.proofs.put_field.Statement.{statement}
 use Rattle.journey.proofs.put_field.Tie as tie
 
-put-number-requires : tie.Need-put-number-requires
-put-number-requires c κs = search needs
-
-slice-aggregate-put-bytes : tie.Need-slice-aggregate-put-bytes
-slice-aggregate-put-bytes c = search needs
-
 put-bytes-requires : tie.Need-put-bytes-requires
 put-bytes-requires c κs =
     (omega arith, omega (arith, c .before .before .before .before .put-number .ensures .0, decimal-some (c .before .before .before .before .before .before .before .args .n) .1, c .before .before .before .before .before .before .before .pre))
-
-same-length : tie.Need-same-length
-same-length c = search needs
 
 returns : tie.Need-returns
 returns c =
@@ -31,4 +22,4 @@ returns c =
 pub put-field-spec : {M : Type 1} → statement M
 put-field-spec =
     tie.close
-    (tie.spec put-number-requires slice-aggregate-put-bytes put-bytes-requires same-length returns)
+    (tie.spec (λ c κs. search needs) (λ c. search needs) put-bytes-requires (λ c. search needs) returns)

@@ -11,22 +11,13 @@ use borrow.Author.Needs.{needs}
 use Rattle.journey.proofs.put_line.Statement.{statement}
 use Rattle.journey.proofs.put_line.Tie as tie
 
-put-field-requires : tie.Need-put-field-requires
-put-field-requires c κs = search needs
-
 put-kind-requires : tie.Need-put-kind-requires
 put-kind-requires c κs =
     omega (arith, c .before .before .before .put-field .ensures .0, spaced-short (c .before .before .before .before .before .before .args .hop), c .before .before .before .before .before .before .pre)
 
-number-in-requires : tie.Need-number-in-requires
-number-in-requires c κs = search needs
-
 put-field-requires-2 : tie.Need-put-field-requires-2
 put-field-requires-2 c κs =
     omega (arith, c .before .before .before .before .before .before .before .before .put-field .ensures .0, spaced-short (c .before .before .before .before .before .before .before .before .before .before .before .args .hop), c .before .before .before .before .put-kind .ensures .0, kind-short (c .before .before .before .before .before .before .before .before .before .before .before .args .callee), c .before .before .before .before .before .before .before .before .before .before .before .pre)
-
-address-of-requires : tie.Need-address-of-requires
-address-of-requires c κs = search needs
 
 put-field-requires-3 : tie.Need-put-field-requires-3
 put-field-requires-3 c κs =
@@ -36,15 +27,9 @@ put-number-requires : tie.Need-put-number-requires
 put-number-requires c κs =
     omega (arith, c .before .before .before .before .before .before .before .before .before .before .before .before .before .before .before .before .before .put-field .ensures .0, spaced-short (c .before .before .before .before .before .before .before .before .before .before .before .before .before .before .before .before .before .before .before .before .args .hop), c .before .before .before .before .before .before .before .before .before .before .before .before .before .put-kind .ensures .0, kind-short (c .before .before .before .before .before .before .before .before .before .before .before .before .before .before .before .before .before .before .before .before .args .callee), c .before .before .before .before .before .before .before .before .put-field2 .ensures .0, spaced-short (c .before .before .before .before .before .before .before .before .before .before .number-in .result), c .before .before .before .put-field3 .ensures .0, spaced-short (c .before .before .before .before .before .address-of .result), c .before .before .before .before .before .before .before .before .before .before .before .before .before .before .before .before .before .before .before .before .pre)
 
-slice-aggregate-put-bytes : tie.Need-slice-aggregate-put-bytes
-slice-aggregate-put-bytes c = search needs
-
 put-bytes-requires : tie.Need-put-bytes-requires
 put-bytes-requires c κs =
     (omega arith, omega (arith, c .before .before .before .before .before .before .before .before .before .before .before .before .before .before .before .before .before .before .before .before .before .before .put-field .ensures .0, spaced-short (c .before .before .before .before .before .before .before .before .before .before .before .before .before .before .before .before .before .before .before .before .before .before .before .before .before .args .hop), c .before .before .before .before .before .before .before .before .before .before .before .before .before .before .before .before .before .before .put-kind .ensures .0, kind-short (c .before .before .before .before .before .before .before .before .before .before .before .before .before .before .before .before .before .before .before .before .before .before .before .before .before .args .callee), c .before .before .before .before .before .before .before .before .before .before .before .before .before .put-field2 .ensures .0, spaced-short (c .before .before .before .before .before .before .before .before .before .before .before .before .before .before .before .number-in .result), c .before .before .before .before .before .before .before .before .put-field3 .ensures .0, spaced-short (c .before .before .before .before .before .before .before .before .before .before .address-of .result), c .before .before .before .before .put-number .ensures .0, decimal-some (c .before .before .before .before .before .before .before .before .before .before .before .before .before .before .before .before .before .before .before .before .before .before .before .before .before .args .left) .1, c .before .before .before .before .before .before .before .before .before .before .before .before .before .before .before .before .before .before .before .before .before .before .before .before .before .pre))
-
-same-length : tie.Need-same-length
-same-length c = search needs
 
 returns : tie.Need-returns
 unfolding line
@@ -60,14 +45,14 @@ pub put-line-spec : {M : Type 1} → statement M
 put-line-spec =
     tie.close
     (tie.spec
-    put-field-requires
+    (λ c κs. search needs)
     put-kind-requires
-    number-in-requires
+    (λ c κs. search needs)
     put-field-requires-2
-    address-of-requires
+    (λ c κs. search needs)
     put-field-requires-3
     put-number-requires
-    slice-aggregate-put-bytes
+    (λ c. search needs)
     put-bytes-requires
-    same-length
+    (λ c. search needs)
     returns)

@@ -8,18 +8,6 @@ use borrow.Author.Needs.{needs}
 use Rattle.journey.proofs.put_listing.Statement.{statement}
 use Rattle.journey.proofs.put_listing.Tie as tie
 
-slice-aggregate-put-bytes : tie.Need-slice-aggregate-put-bytes
-slice-aggregate-put-bytes c = search needs
-
-put-bytes-requires : tie.Need-put-bytes-requires
-put-bytes-requires c κs = search needs
-
-put-hops-requires : tie.Need-put-hops-requires
-put-hops-requires c κs = search needs
-
-same-length : tie.Need-same-length
-same-length c = search needs
-
 returns : tie.Need-returns
 unfolding listing headLine
 returns c =
@@ -30,4 +18,4 @@ returns c =
 pub put-listing-spec : {M : Type 1} → statement M
 put-listing-spec =
     tie.close
-    (tie.spec slice-aggregate-put-bytes put-bytes-requires put-hops-requires same-length returns)
+    (tie.spec (λ c. search needs) (λ c κs. search needs) (λ c κs. search needs) (λ c. search needs) returns)

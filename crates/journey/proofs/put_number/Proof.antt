@@ -9,12 +9,6 @@ use borrow.Author.Needs.{needs}
 use Rattle.journey.proofs.put_number.Statement.{statement}
 use Rattle.journey.proofs.put_number.Tie as tie
 
-decimal-requires : tie.Need-decimal-requires
-decimal-requires c κs = search needs
-
-cast-end : tie.Need-cast-end
-cast-end c = search needs
-
 array-share-prefix-bytes : tie.Need-array-share-prefix-bytes
 unfolding digits
 array-share-prefix-bytes c =
@@ -30,9 +24,6 @@ put-bytes-requires c κs =
     let short : length (decimal n) ≤ 100 = omega (arith, decimal-some n .1) in
     (rw (c .before .before .before .before .decimal .ensures, digits-are n) short, c .before .before .before .before .before .before .pre)
 
-same-length : tie.Need-same-length
-same-length c = search needs
-
 returns : tie.Need-returns
 returns c =
     let n = c .before .before .before .before .before .before .before .before .before .args .n in
@@ -42,10 +33,10 @@ pub put-number-spec : {M : Type 1} → statement M
 put-number-spec =
     tie.close
     (tie.spec
-    decimal-requires
-    cast-end
+    (λ c κs. search needs)
+    (λ c. search needs)
     array-share-prefix-bytes
     slice-aggregate-put-bytes
     put-bytes-requires
-    same-length
+    (λ c. search needs)
     returns)

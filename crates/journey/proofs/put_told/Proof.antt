@@ -11,35 +11,14 @@ use borrow.Author.Needs.{needs}
 use Rattle.journey.proofs.put_told.Statement.{statement}
 use Rattle.journey.proofs.put_told.Tie as tie
 
-enum-told : tie.Need-enum-told
-enum-told c = search needs
-
 put-listing-requires : tie.Need-put-listing-requires
 put-listing-requires c κs = c .before .before .before .before .before .pre (c .before .enum-told .given .1)
-
-enum-known-outcome : tie.Need-enum-known-outcome
-enum-known-outcome c = search needs
-
-number-requires : tie.Need-number-requires
-number-requires c κs = search needs
-
-cast-put-refused : tie.Need-cast-put-refused
-cast-put-refused c = search needs
-
-put-refused-requires : tie.Need-put-refused-requires
-put-refused-requires c κs = search needs
-
-same-length : tie.Need-same-length
-same-length c = search needs
 
 returns : tie.Need-returns
 unfolding told
 returns c =
     let a = c .before .before .before .before .before .before .before .before .args in
     rw (c .before .before .before .before .enum-told .given .1) (c .before .before .put-listing .ensures)
-
-same-length-2 : tie.Need-same-length-2
-same-length-2 c = search needs
 
 returns-2 : tie.Need-returns-2
 unfolding told
@@ -51,13 +30,13 @@ pub put-told-spec : {M : Type 1} → statement M
 put-told-spec =
     tie.close
     (tie.spec
-    enum-told
+    (λ c. search needs)
     put-listing-requires
-    enum-known-outcome
-    number-requires
-    cast-put-refused
-    put-refused-requires
-    same-length
+    (λ c. search needs)
+    (λ c κs. search needs)
+    (λ c. search needs)
+    (λ c κs. search needs)
+    (λ c. search needs)
     returns
-    same-length-2
+    (λ c. search needs)
     returns-2)

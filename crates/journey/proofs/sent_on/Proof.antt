@@ -7,27 +7,6 @@ use borrow.Author.Needs.{needs}
 use Rattle.journey.proofs.sent_on.Statement.{statement}
 use Rattle.journey.proofs.sent_on.Tie as tie
 
-enum-known-callee : tie.Need-enum-known-callee
-enum-known-callee c = search needs
-
-slice-aggregate-continued-setup : tie.Need-slice-aggregate-continued-setup
-slice-aggregate-continued-setup c = search needs
-
-continued-setup-requires : tie.Need-continued-setup-requires
-continued-setup-requires c κs = search needs
-
-enum-told : tie.Need-enum-told
-enum-told c = search needs
-
-enum-told-2 : tie.Need-enum-told-2
-enum-told-2 c = search needs
-
-enum-told-3 : tie.Need-enum-told-3
-enum-told-3 c = search needs
-
-enum-told-4 : tie.Need-enum-told-4
-enum-told-4 c = search needs
-
 returns : tie.Need-returns
 returns c =
     let a = c .before .before .before .before .before .before .args in
@@ -57,13 +36,13 @@ pub sent-on-spec : {M : Type 1} → statement M
 sent-on-spec =
     tie.close
     (tie.spec
-    enum-known-callee
-    slice-aggregate-continued-setup
-    continued-setup-requires
-    enum-told
-    enum-told-2
-    enum-told-3
-    enum-told-4
+    (λ c. search needs)
+    (λ c. search needs)
+    (λ c κs. search needs)
+    (λ c. search needs)
+    (λ c. search needs)
+    (λ c. search needs)
+    (λ c. search needs)
     returns
     returns-2
     returns-3

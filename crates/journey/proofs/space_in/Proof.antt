@@ -30,9 +30,6 @@ returns : tie.Need-returns Inv-loop μ-loop
 unfolding spaceIn
 returns c = sym (least-found _ _ _ (c .before .before .before .loop .inv .1) (c .before .before .loop-test .taken) (eq-eqb _ _ (c .if1 .taken)))
 
-add-i : tie.Need-add-i Inv-loop μ-loop
-add-i c = search needs
-
 loop-less : tie.Need-loop-less Inv-loop μ-loop
 loop-less c = omega (arith, c .before .before .loop-test .taken)
 
@@ -55,7 +52,7 @@ space-in-spec =
     loop-holds
     shared-slice-read-if1
     returns
-    add-i
+    (λ c. search needs)
     loop-less
     loop-again
     returns-2)

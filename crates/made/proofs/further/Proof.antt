@@ -6,30 +6,6 @@ use borrow.Author.Needs.{needs}
 use Rattle.made.proofs.further.Statement.{statement}
 use Rattle.made.proofs.further.Tie as tie
 
-routing-requires : tie.Need-routing-requires
-routing-requires c κs = search needs
-
-or-kept-requires : tie.Need-or-kept-requires
-or-kept-requires c κs = search needs
-
-other-requires : tie.Need-other-requires
-other-requires c κs = search needs
-
-or-kept-requires-2 : tie.Need-or-kept-requires-2
-or-kept-requires-2 c κs = search needs
-
-source-in-requires : tie.Need-source-in-requires
-source-in-requires c κs = search needs
-
-target-in-requires : tie.Need-target-in-requires
-target-in-requires c κs = search needs
-
-empty-list-requires : tie.Need-empty-list-requires
-empty-list-requires c κs = search needs
-
-outer-for-requires : tie.Need-outer-for-requires
-outer-for-requires c κs = search needs
-
 returns : tie.Need-returns
 unfolding further
 returns c =
@@ -62,13 +38,13 @@ pub further-spec : {M : Type 1} → statement M
 further-spec =
     tie.close
     (tie.spec
-    routing-requires
-    or-kept-requires
-    other-requires
-    or-kept-requires-2
-    source-in-requires
-    target-in-requires
-    empty-list-requires
-    outer-for-requires
+    (λ c κs. search needs)
+    (λ c κs. search needs)
+    (λ c κs. search needs)
+    (λ c κs. search needs)
+    (λ c κs. search needs)
+    (λ c κs. search needs)
+    (λ c κs. search needs)
+    (λ c κs. search needs)
     returns
     returns-2)

@@ -8,15 +8,9 @@ use borrow.Author.Needs.{needs}
 use Rattle.made.proofs.new_of.Statement.{statement}
 use Rattle.made.proofs.new_of.Tie as tie
 
-dial-requires : tie.Need-dial-requires
-dial-requires c κs = search needs
-
-empty-list-requires : tie.Need-empty-list-requires
-empty-list-requires c κs = search needs
-
 returns : tie.Need-returns
 unfolding newSetup
 returns c = rw (c .before .dial .ensures, c .empty-list .ensures)
 
 pub new-of-spec : {M : Type 1} → statement M
-new-of-spec = tie.close (tie.spec dial-requires empty-list-requires returns)
+new-of-spec = tie.close (tie.spec (λ c κs. search needs) (λ c κs. search needs) returns)

@@ -8,12 +8,6 @@ use borrow.Author.Needs.{needs}
 use Rattle.made.proofs.string_or.Statement.{statement}
 use Rattle.made.proofs.string_or.Tie as tie
 
-kept-string-requires : tie.Need-kept-string-requires
-kept-string-requires c κs = search needs
-
-dial-requires : tie.Need-dial-requires
-dial-requires c κs = search needs
-
 returns : tie.Need-returns
 returns c =
     let s = c .before .before .before .args .string .now in
@@ -27,4 +21,4 @@ returns-2 c =
     rw (ne-eqb (length (take 32 s)) 0 some) (c .dial .ensures)
 
 pub string-or-spec : {M : Type 1} → statement M
-string-or-spec = tie.close (tie.spec kept-string-requires dial-requires returns returns-2)
+string-or-spec = tie.close (tie.spec (λ c κs. search needs) (λ c κs. search needs) returns returns-2)

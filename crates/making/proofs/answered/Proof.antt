@@ -6,15 +6,6 @@ use borrow.Author.Needs.{needs}
 use Rattle.making.proofs.answered.Statement.{statement}
 use Rattle.making.proofs.answered.Tie as tie
 
-enum-told : tie.Need-enum-told
-enum-told c = search needs
-
-enum-known-outcome : tie.Need-enum-known-outcome
-enum-known-outcome c = search needs
-
-blank-setup-requires : tie.Need-blank-setup-requires
-blank-setup-requires c κs = search needs
-
 returns : tie.Need-returns
 unfolding answered
 returns c = rw (c .enum-told .given .1)
@@ -25,4 +16,4 @@ returns-2 c = rw (c .before .before .outcome .given .1, c .blank-setup .ensures)
 
 pub answered-spec : {M : Type 1} → statement M
 answered-spec =
-    tie.close (tie.spec enum-told enum-known-outcome blank-setup-requires returns returns-2)
+    tie.close (tie.spec (λ c. search needs) (λ c. search needs) (λ c κs. search needs) returns returns-2)

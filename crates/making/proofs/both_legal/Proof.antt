@@ -4,17 +4,11 @@ use borrow.Author.Needs.{needs}
 use Rattle.making.proofs.both_legal.Statement.{statement}
 use Rattle.making.proofs.both_legal.Tie as tie
 
-legal-requires : tie.Need-legal-requires
-legal-requires c κs = search needs
-
 returns : tie.Need-returns
 returns c = rw (failed (c .before .legal .ensures) (c .if1 .taken))
-
-legal-requires-2 : tie.Need-legal-requires-2
-legal-requires-2 c κs = search needs
 
 returns-2 : tie.Need-returns-2
 returns-2 c = rw (passed (c .before .before .legal .ensures) (c .before .if1 .left)) (c .legal2 .ensures)
 
 pub both-legal-spec : {M : Type 1} → statement M
-both-legal-spec = tie.close (tie.spec legal-requires returns legal-requires-2 returns-2)
+both-legal-spec = tie.close (tie.spec (λ c κs. search needs) returns (λ c κs. search needs) returns-2)

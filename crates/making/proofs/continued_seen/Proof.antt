@@ -9,18 +9,6 @@ use borrow.Author.Needs.{needs}
 use Rattle.making.proofs.continued_seen.Statement.{statement}
 use Rattle.making.proofs.continued_seen.Tie as tie
 
-continued-outcome-requires : tie.Need-continued-outcome-requires
-continued-outcome-requires c κs = search needs
-
-box-address-requires : tie.Need-box-address-requires
-box-address-requires c κs = search needs
-
-continued-of-requires : tie.Need-continued-of-requires
-continued-of-requires c κs = search needs
-
-answered-requires : tie.Need-answered-requires
-answered-requires c κs = search needs
-
 returns : tie.Need-returns
 returns c p shows =
     let a = c .before .before .before .before .before .args in
@@ -39,8 +27,8 @@ pub continued-seen-spec : {M : Type 1} → statement M
 continued-seen-spec =
     tie.close
     (tie.spec
-    continued-outcome-requires
-    box-address-requires
-    continued-of-requires
-    answered-requires
+    (λ c κs. search needs)
+    (λ c κs. search needs)
+    (λ c κs. search needs)
+    (λ c κs. search needs)
     returns)

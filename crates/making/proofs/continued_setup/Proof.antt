@@ -6,12 +6,6 @@ use borrow.Author.Needs.{needs}
 use Rattle.making.proofs.continued_setup.Statement.{statement}
 use Rattle.making.proofs.continued_setup.Tie as tie
 
-sound-requires : tie.Need-sound-requires
-sound-requires c κs = search needs
-
-continued-tested-requires : tie.Need-continued-tested-requires
-continued-tested-requires c κs = search needs
-
 returns : tie.Need-returns
 returns c =
     let a = c .before .before .before .args in
@@ -20,4 +14,4 @@ returns c =
     (exact, continued-said (a .plan) (a .maker) (a .s) (a .source-arg) s (a .target-arg) (c .continued-tested .result) exact)
 
 pub continued-setup-spec : {M : Type 1} → statement M
-continued-setup-spec = tie.close (tie.spec sound-requires continued-tested-requires returns)
+continued-setup-spec = tie.close (tie.spec (λ c κs. search needs) (λ c κs. search needs) returns)

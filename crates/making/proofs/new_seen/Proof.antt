@@ -11,18 +11,6 @@ use borrow.Author.Needs.{needs}
 use Rattle.making.proofs.new_seen.Statement.{statement}
 use Rattle.making.proofs.new_seen.Tie as tie
 
-new-outcome-requires : tie.Need-new-outcome-requires
-new-outcome-requires c κs = search needs
-
-box-address-requires : tie.Need-box-address-requires
-box-address-requires c κs = search needs
-
-new-of-requires : tie.Need-new-of-requires
-new-of-requires c κs = search needs
-
-answered-requires : tie.Need-answered-requires
-answered-requires c κs = search needs
-
 returns : tie.Need-returns
 returns c p second shows =
     let a = c .before .before .before .before .before .before .before .args in
@@ -39,4 +27,4 @@ returns c p second shows =
 pub new-seen-spec : {M : Type 1} → statement M
 new-seen-spec =
     tie.close
-    (tie.spec new-outcome-requires box-address-requires new-of-requires answered-requires returns)
+    (tie.spec (λ c κs. search needs) (λ c κs. search needs) (λ c κs. search needs) (λ c κs. search needs) returns)

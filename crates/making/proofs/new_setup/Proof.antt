@@ -6,12 +6,6 @@ use borrow.Author.Needs.{needs}
 use Rattle.making.proofs.new_setup.Statement.{statement}
 use Rattle.making.proofs.new_setup.Tie as tie
 
-sound-requires : tie.Need-sound-requires
-sound-requires c κs = search needs
-
-new-tested-requires : tie.Need-new-tested-requires
-new-tested-requires c κs = search needs
-
 returns : tie.Need-returns
 returns c =
     let a = c .before .before .before .args in
@@ -20,4 +14,4 @@ returns c =
     (exact, new-said (a .plan) (a .maker) s (a .target-arg) (c .new-tested .result) exact)
 
 pub new-setup-spec : {M : Type 1} → statement M
-new-setup-spec = tie.close (tie.spec sound-requires new-tested-requires returns)
+new-setup-spec = tie.close (tie.spec (λ c κs. search needs) (λ c κs. search needs) returns)

@@ -6,19 +6,10 @@ use borrow.Author.Needs.{needs}
 use Rattle.making.proofs.new_tested.Statement.{statement}
 use Rattle.making.proofs.new_tested.Tie as tie
 
-box-address-requires : tie.Need-box-address-requires
-box-address-requires c κs = search needs
-
-look-requires : tie.Need-look-requires
-look-requires c κs = search needs
-
-new-seen-requires : tie.Need-new-seen-requires
-new-seen-requires c κs = search needs
-
 returns : tie.Need-returns
 returns c =
     let p = c .before .before .before .before .args .plan in
     c .new-seen .ensures p 0 (sym (c .before .look .ensures ∙ ap (λ (a : ℕ). seen p a 0) (c .before .before .box-address .ensures)))
 
 pub new-tested-spec : {M : Type 1} → statement M
-new-tested-spec = tie.close (tie.spec box-address-requires look-requires new-seen-requires returns)
+new-tested-spec = tie.close (tie.spec (λ c κs. search needs) (λ c κs. search needs) (λ c κs. search needs) returns)

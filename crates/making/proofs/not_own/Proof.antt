@@ -6,9 +6,6 @@ use borrow.Author.Needs.{needs}
 use Rattle.making.proofs.not_own.Statement.{statement}
 use Rattle.making.proofs.not_own.Tie as tie
 
-routing-requires : tie.Need-routing-requires
-routing-requires c κs = search needs
-
 returns : tie.Need-returns
 unfolding notOwn
 returns c = rw (eq-eqb _ 0 (sym (c .before .routing .ensures) ∙ c .if1 .taken))
@@ -18,4 +15,4 @@ unfolding notOwn
 returns-2 c = rw (ne-eqb _ 0 (λ z. c .if1 .left (c .before .routing .ensures ∙ z)), c .before .routing .ensures)
 
 pub not-own-spec : {M : Type 1} → statement M
-not-own-spec = tie.close (tie.spec routing-requires returns returns-2)
+not-own-spec = tie.close (tie.spec (λ c κs. search needs) returns returns-2)

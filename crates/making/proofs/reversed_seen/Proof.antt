@@ -9,21 +9,6 @@ use borrow.Author.Needs.{needs}
 use Rattle.making.proofs.reversed_seen.Statement.{statement}
 use Rattle.making.proofs.reversed_seen.Tie as tie
 
-reversed-outcome-requires : tie.Need-reversed-outcome-requires
-reversed-outcome-requires c κs = search needs
-
-box-type-requires : tie.Need-box-type-requires
-box-type-requires c κs = search needs
-
-box-address-requires : tie.Need-box-address-requires
-box-address-requires c κs = search needs
-
-reversed-of-requires : tie.Need-reversed-of-requires
-reversed-of-requires c κs = search needs
-
-answered-requires : tie.Need-answered-requires
-answered-requires c κs = search needs
-
 returns : tie.Need-returns
 returns c p shows =
     let a = c .before .before .before .before .before .before .args in
@@ -42,9 +27,9 @@ pub reversed-seen-spec : {M : Type 1} → statement M
 reversed-seen-spec =
     tie.close
     (tie.spec
-    reversed-outcome-requires
-    box-type-requires
-    box-address-requires
-    reversed-of-requires
-    answered-requires
+    (λ c κs. search needs)
+    (λ c κs. search needs)
+    (λ c κs. search needs)
+    (λ c κs. search needs)
+    (λ c κs. search needs)
     returns)

@@ -6,12 +6,6 @@ use borrow.Author.Needs.{needs}
 use Rattle.making.proofs.reversed_setup.Statement.{statement}
 use Rattle.making.proofs.reversed_setup.Tie as tie
 
-sound-requires : tie.Need-sound-requires
-sound-requires c κs = search needs
-
-reversed-tested-requires : tie.Need-reversed-tested-requires
-reversed-tested-requires c κs = search needs
-
 returns : tie.Need-returns
 returns c =
     let a = c .before .before .before .args in
@@ -20,4 +14,4 @@ returns c =
     (exact, reversed-said (a .plan) (a .maker) (a .s) (a .source-arg) s (a .target-arg) (c .reversed-tested .result) exact)
 
 pub reversed-setup-spec : {M : Type 1} → statement M
-reversed-setup-spec = tie.close (tie.spec sound-requires reversed-tested-requires returns)
+reversed-setup-spec = tie.close (tie.spec (λ c κs. search needs) (λ c κs. search needs) returns)

@@ -5,18 +5,6 @@ use borrow.Author.Needs.{needs}
 use Rattle.making.proofs.reversed_tested.Statement.{statement}
 use Rattle.making.proofs.reversed_tested.Tie as tie
 
-box-address-requires : tie.Need-box-address-requires
-box-address-requires c κs = search needs
-
-routing-address-requires : tie.Need-routing-address-requires
-routing-address-requires c κs = search needs
-
-look-requires : tie.Need-look-requires
-look-requires c κs = search needs
-
-reversed-seen-requires : tie.Need-reversed-seen-requires
-reversed-seen-requires c κs = search needs
-
 returns : tie.Need-returns
 returns c =
     let p = c .before .before .before .before .before .args .plan in
@@ -26,8 +14,8 @@ pub reversed-tested-spec : {M : Type 1} → statement M
 reversed-tested-spec =
     tie.close
     (tie.spec
-    box-address-requires
-    routing-address-requires
-    look-requires
-    reversed-seen-requires
+    (λ c κs. search needs)
+    (λ c κs. search needs)
+    (λ c κs. search needs)
+    (λ c κs. search needs)
     returns)

@@ -3,27 +3,6 @@ use borrow.Author.Needs.{needs}
 use Rattle.making.proofs.type_exists.Statement.{statement}
 use Rattle.making.proofs.type_exists.Tie as tie
 
-enum-known-maker : tie.Need-enum-known-maker
-enum-known-maker c = search needs
-
-cast-has : tie.Need-cast-has
-cast-has c = search needs
-
-has-requires : tie.Need-has-requires
-has-requires c κs = search needs
-
-enum-told : tie.Need-enum-told
-enum-told c = search needs
-
-enum-told-2 : tie.Need-enum-told-2
-enum-told-2 c = search needs
-
-enum-told-3 : tie.Need-enum-told-3
-enum-told-3 c = search needs
-
-enum-told-4 : tie.Need-enum-told-4
-enum-told-4 c = search needs
-
 returns : tie.Need-returns
 returns c p e = rw (c .before .before .maker .given .1, e) (c .has .ensures)
 
@@ -43,13 +22,13 @@ pub type-exists-spec : {M : Type 1} → statement M
 type-exists-spec =
     tie.close
     (tie.spec
-    enum-known-maker
-    cast-has
-    has-requires
-    enum-told
-    enum-told-2
-    enum-told-3
-    enum-told-4
+    (λ c. search needs)
+    (λ c. search needs)
+    (λ c κs. search needs)
+    (λ c. search needs)
+    (λ c. search needs)
+    (λ c. search needs)
+    (λ c. search needs)
     returns
     returns-2
     returns-3

@@ -6,18 +6,6 @@ use borrow.Author.Needs.{needs}
 use Rattle.making.proofs.zone_shown.Statement.{statement}
 use Rattle.making.proofs.zone_shown.Tie as tie
 
-enum-told : tie.Need-enum-told
-enum-told c = search needs
-
-zone-of-requires : tie.Need-zone-of-requires
-zone-of-requires c κs = search needs
-
-enum-told-2 : tie.Need-enum-told-2
-enum-told-2 c = search needs
-
-zone-of-requires-2 : tie.Need-zone-of-requires-2
-zone-of-requires-2 c κs = search needs
-
 returns : tie.Need-returns
 returns c p first second e = rw (c .before .before .enum-told .given .1) (c .zone-of .ensures ∙ sym (ap held (source-zone-seen p first second e)))
 
@@ -27,4 +15,4 @@ returns-2 c p first second e = rw (c .before .before .enum-told2 .given .1) (c .
 pub zone-shown-spec : {M : Type 1} → statement M
 zone-shown-spec =
     tie.close
-    (tie.spec enum-told zone-of-requires enum-told-2 zone-of-requires-2 returns returns-2)
+    (tie.spec (λ c. search needs) (λ c κs. search needs) (λ c. search needs) (λ c κs. search needs) returns returns-2)

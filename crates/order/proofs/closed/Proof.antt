@@ -18,19 +18,10 @@ abbrev μ-loop : tie.MeasureT-loop
 loop-holds : tie.Need-loop-holds Inv-loop μ-loop
 loop-holds c = asks-set _ (search needs) (carries-none _ _)
 
-lowest-requires : tie.Need-lowest-requires Inv-loop μ-loop
-lowest-requires c κs = search needs
-
-carries-requires : tie.Need-carries-requires Inv-loop μ-loop
-carries-requires c κs = search needs
-
 returns : tie.Need-returns Inv-loop μ-loop
 unfolding closed
 returns c =
     sym (asks-fails _ (c .before .before .before .before .loop .inv) (c .before .before .before .loop-test .taken) (c .before .before .lowest .ensures) (failed (c .before .carries .ensures) (c .if1 .taken)))
-
-without-requires : tie.Need-without-requires Inv-loop μ-loop
-without-requires c κs = search needs
 
 loop-less : tie.Need-loop-less Inv-loop μ-loop
 loop-less c = taken-less (c .before .before .before .before .before .loop .inv .0) (c .before .before .before .before .loop-test .taken) (c .before .before .before .lowest .ensures) (c .without .ensures)
@@ -50,10 +41,10 @@ closed-spec =
     Inv-loop
     μ-loop
     loop-holds
-    lowest-requires
-    carries-requires
+    (λ c κs. search needs)
+    (λ c κs. search needs)
     returns
-    without-requires
+    (λ c κs. search needs)
     loop-less
     loop-again
     returns-2)

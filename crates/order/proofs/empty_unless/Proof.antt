@@ -5,9 +5,6 @@ use borrow.Author.Needs.{needs}
 use Rattle.order.proofs.empty_unless.Statement.{statement}
 use Rattle.order.proofs.empty_unless.Tie as tie
 
-has-requires : tie.Need-has-requires
-has-requires c κs = search needs
-
 returns : tie.Need-returns
 unfolding emptyUnless
 returns c = rw (sym (c .before .has .ensures) ∙ c .if1 .taken)
@@ -17,4 +14,4 @@ unfolding emptyUnless
 returns-2 c = rw (sym (c .before .has .ensures) ∙ c .if1 .left)
 
 pub empty-unless-spec : {M : Type 1} → statement M
-empty-unless-spec = tie.close (tie.spec has-requires returns returns-2)
+empty-unless-spec = tie.close (tie.spec (λ c κs. search needs) returns returns-2)

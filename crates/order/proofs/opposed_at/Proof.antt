@@ -18,9 +18,6 @@ abbrev μ-loop : tie.MeasureT-loop
 loop-holds : tie.Need-loop-holds Inv-loop μ-loop
 loop-holds c = asks-set _ (search needs) (pair-opposed-none _ _ _ _)
 
-lowest-requires : tie.Need-lowest-requires Inv-loop μ-loop
-lowest-requires c κs = search needs
-
 pair-opposed-requires : tie.Need-pair-opposed-requires Inv-loop μ-loop
 pair-opposed-requires c κs = (search needs, taken-below (c .before .before .loop .inv .0) (c .before .loop-test .taken) (c .lowest .ensures))
 
@@ -28,9 +25,6 @@ returns : tie.Need-returns Inv-loop μ-loop
 unfolding opposedAt
 returns c =
     sym (asks-fails _ (c .before .before .before .before .loop .inv) (c .before .before .before .loop-test .taken) (c .before .before .lowest .ensures) (failed (c .before .pair-opposed .ensures) (c .if1 .taken)))
-
-without-requires : tie.Need-without-requires Inv-loop μ-loop
-without-requires c κs = search needs
 
 loop-less : tie.Need-loop-less Inv-loop μ-loop
 loop-less c = taken-less (c .before .before .before .before .before .loop .inv .0) (c .before .before .before .before .loop-test .taken) (c .before .before .before .lowest .ensures) (c .without .ensures)
@@ -50,10 +44,10 @@ opposed-at-spec =
     Inv-loop
     μ-loop
     loop-holds
-    lowest-requires
+    (λ c κs. search needs)
     pair-opposed-requires
     returns
-    without-requires
+    (λ c κs. search needs)
     loop-less
     loop-again
     returns-2)

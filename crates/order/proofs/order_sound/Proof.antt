@@ -21,18 +21,9 @@ abbrev μ-loop : tie.MeasureT-loop
 loop-holds : tie.Need-loop-holds Inv-loop μ-loop
 loop-holds c = (search needs, every-none _)
 
-row-sound-requires : tie.Need-row-sound-requires Inv-loop μ-loop
-row-sound-requires c κs = search needs
-
 returns : tie.Need-returns Inv-loop μ-loop
 returns c =
     sym (sym (order-rows _ _) ∙ every-no 32 _ _ (c .before .before .loop-test .taken) (sym (c .before .row-sound .ensures) ∙ not-true _ (c .if1 .taken)))
-
-add-t : tie.Need-add-t Inv-loop μ-loop
-add-t c = search needs
-
-loop-less : tie.Need-loop-less Inv-loop μ-loop
-loop-less c = search needs
 
 loop-again : tie.Need-loop-again Inv-loop μ-loop
 loop-again c = (search needs, every-more _ _ (c .before .before .before .loop .inv .1) (sym (c .before .row-sound .ensures) ∙ not-false _ (c .if1 .left)))
@@ -49,9 +40,9 @@ order-sound-spec =
     Inv-loop
     μ-loop
     loop-holds
-    row-sound-requires
+    (λ c κs. search needs)
     returns
-    add-t
-    loop-less
+    (λ c. search needs)
+    (λ c. search needs)
     loop-again
     returns-2)

@@ -8,33 +8,9 @@ use borrow.Author.Needs.{needs}
 use Rattle.order.proofs.pair_opposed.Statement.{statement}
 use Rattle.order.proofs.pair_opposed.Tie as tie
 
-two-of-requires : tie.Need-two-of-requires
-two-of-requires c κs = search needs
-
 returns : tie.Need-returns
 unfolding pairOpposed
 returns c = rw (failed (c .before .two-of .ensures) (c .if1 .taken))
-
-mul-has : tie.Need-mul-has
-mul-has c = search needs
-
-element-copy-out-has : tie.Need-element-copy-out-has
-element-copy-out-has c = search needs
-
-has-requires : tie.Need-has-requires
-has-requires c κs = search needs
-
-mul-has-2 : tie.Need-mul-has-2
-mul-has-2 c = search needs
-
-element-copy-out-has-2 : tie.Need-element-copy-out-has-2
-element-copy-out-has-2 c = search needs
-
-has-requires-2 : tie.Need-has-requires-2
-has-requires-2 c κs = search needs
-
-same-requires : tie.Need-same-requires
-same-requires c κs = search needs
 
 returns-2 : tie.Need-returns-2
 unfolding pairOpposed precedes
@@ -44,13 +20,13 @@ pub pair-opposed-spec : {M : Type 1} → statement M
 pair-opposed-spec =
     tie.close
     (tie.spec
-    two-of-requires
+    (λ c κs. search needs)
     returns
-    mul-has
-    element-copy-out-has
-    has-requires
-    mul-has-2
-    element-copy-out-has-2
-    has-requires-2
-    same-requires
+    (λ c. search needs)
+    (λ c. search needs)
+    (λ c κs. search needs)
+    (λ c. search needs)
+    (λ c. search needs)
+    (λ c κs. search needs)
+    (λ c κs. search needs)
     returns-2)

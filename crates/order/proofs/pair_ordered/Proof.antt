@@ -7,34 +7,13 @@ use borrow.Author.Needs.{needs}
 use Rattle.order.proofs.pair_ordered.Statement.{statement}
 use Rattle.order.proofs.pair_ordered.Tie as tie
 
-two-of-requires : tie.Need-two-of-requires
-two-of-requires c κs = search needs
-
 returns : tie.Need-returns
 unfolding pairOrdered
 returns c = rw (failed (c .before .two-of .ensures) (c .if1 .taken))
 
-mul-has : tie.Need-mul-has
-mul-has c = search needs
-
-element-copy-out-has : tie.Need-element-copy-out-has
-element-copy-out-has c = search needs
-
-has-requires : tie.Need-has-requires
-has-requires c κs = search needs
-
 returns-2 : tie.Need-returns-2
 unfolding pairOrdered precedes
 returns-2 c = rw (passed (c .before .before .before .before .two-of .ensures) (c .before .before .before .if1 .left), sym (c .before .has .ensures) ∙ c .if2 .taken)
-
-mul-has-2 : tie.Need-mul-has-2
-mul-has-2 c = search needs
-
-element-copy-out-has-2 : tie.Need-element-copy-out-has-2
-element-copy-out-has-2 c = search needs
-
-has-requires-2 : tie.Need-has-requires-2
-has-requires-2 c κs = search needs
 
 returns-3 : tie.Need-returns-3
 unfolding pairOrdered precedes
@@ -44,13 +23,13 @@ pub pair-ordered-spec : {M : Type 1} → statement M
 pair-ordered-spec =
     tie.close
     (tie.spec
-    two-of-requires
+    (λ c κs. search needs)
     returns
-    mul-has
-    element-copy-out-has
-    has-requires
+    (λ c. search needs)
+    (λ c. search needs)
+    (λ c κs. search needs)
     returns-2
-    mul-has-2
-    element-copy-out-has-2
-    has-requires-2
+    (λ c. search needs)
+    (λ c. search needs)
+    (λ c κs. search needs)
     returns-3)

@@ -19,9 +19,6 @@ abbrev μ-loop : tie.MeasureT-loop
 loop-holds : tie.Need-loop-holds Inv-loop μ-loop
 loop-holds c = asks-set _ (search needs) (opposed-none _ _ _)
 
-lowest-requires : tie.Need-lowest-requires Inv-loop μ-loop
-lowest-requires c κs = search needs
-
 opposed-at-requires : tie.Need-opposed-at-requires Inv-loop μ-loop
 opposed-at-requires c κs = taken-below (c .before .before .loop .inv .0) (c .before .loop-test .taken) (c .lowest .ensures)
 
@@ -29,9 +26,6 @@ returns : tie.Need-returns Inv-loop μ-loop
 unfolding reversibleOpposed opposedAt pairOpposed
 returns c =
     sym (asks-fails _ (c .before .before .before .before .loop .inv) (c .before .before .before .loop-test .taken) (c .before .before .lowest .ensures) (failed (c .before .opposed-at .ensures) (c .if1 .taken)))
-
-without-requires : tie.Need-without-requires Inv-loop μ-loop
-without-requires c κs = search needs
 
 loop-less : tie.Need-loop-less Inv-loop μ-loop
 loop-less c = taken-less (c .before .before .before .before .before .loop .inv .0) (c .before .before .before .before .loop-test .taken) (c .before .before .before .lowest .ensures) (c .without .ensures)
@@ -51,10 +45,10 @@ reversible-opposed-spec =
     Inv-loop
     μ-loop
     loop-holds
-    lowest-requires
+    (λ c κs. search needs)
     opposed-at-requires
     returns
-    without-requires
+    (λ c κs. search needs)
     loop-less
     loop-again
     returns-2)

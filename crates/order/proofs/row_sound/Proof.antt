@@ -7,31 +7,16 @@ use borrow.Author.Needs.{needs}
 use Rattle.order.proofs.row_sound.Statement.{statement}
 use Rattle.order.proofs.row_sound.Tie as tie
 
-mul-row : tie.Need-mul-row
-mul-row c = search needs
-
-element-copy-out-row : tie.Need-element-copy-out-row
-element-copy-out-row c = search needs
-
 returns : tie.Need-returns
 returns c = sym (row-empty _ _ _ (c .if1 .taken))
-
-within-requires : tie.Need-within-requires
-within-requires c κs = search needs
 
 returns-2 : tie.Need-returns-2
 unfolding rowSound
 returns-2 c = rw (failed (c .before .within .ensures) (c .if2 .taken))
 
-empty-unless-requires : tie.Need-empty-unless-requires
-empty-unless-requires c κs = search needs
-
 returns-3 : tie.Need-returns-3
 unfolding rowSound
 returns-3 c = rw (passed (c .before .before .before .within .ensures) (c .before .before .if2 .left), failed (c .before .empty-unless .ensures) (c .if3 .taken))
-
-has-requires : tie.Need-has-requires
-has-requires c κs = search needs
 
 returns-4 : tie.Need-returns-4
 unfolding rowSound
@@ -41,9 +26,6 @@ returns-4 c =
       passed (c .before .before .before .empty-unless .ensures) (c .before .before .if3 .left),
       sym (c .before .has .ensures) ∙ c .if4 .taken,
     )
-
-closed-requires : tie.Need-closed-requires
-closed-requires c κs = search needs
 
 returns-5 : tie.Need-returns-5
 unfolding rowSound
@@ -58,14 +40,14 @@ pub row-sound-spec : {M : Type 1} → statement M
 row-sound-spec =
     tie.close
     (tie.spec
-    mul-row
-    element-copy-out-row
+    (λ c. search needs)
+    (λ c. search needs)
     returns
-    within-requires
+    (λ c κs. search needs)
     returns-2
-    empty-unless-requires
+    (λ c κs. search needs)
     returns-3
-    has-requires
+    (λ c κs. search needs)
     returns-4
-    closed-requires
+    (λ c κs. search needs)
     returns-5)

@@ -5,15 +5,9 @@ use borrow.Author.Needs.{needs}
 use Rattle.order.proofs.two_of.Statement.{statement}
 use Rattle.order.proofs.two_of.Tie as tie
 
-has-requires : tie.Need-has-requires
-has-requires c κs = search needs
-
 returns : tie.Need-returns
 unfolding twoOf
 returns c = rw (failed (c .before .has .ensures) (c .if1 .taken))
-
-has-requires-2 : tie.Need-has-requires-2
-has-requires-2 c κs = search needs
 
 returns-2 : tie.Need-returns-2
 unfolding twoOf
@@ -24,4 +18,4 @@ unfolding twoOf
 returns-3 c = rw (passed (c .before .before .before .has .ensures) (c .before .before .if1 .left), passed (c .before .has2 .ensures) (c .if2 .left))
 
 pub two-of-spec : {M : Type 1} → statement M
-two-of-spec = tie.close (tie.spec has-requires returns has-requires-2 returns-2 returns-3)
+two-of-spec = tie.close (tie.spec (λ c κs. search needs) returns (λ c κs. search needs) returns-2 returns-3)

@@ -4,9 +4,6 @@ use borrow.Author.Needs.{needs}
 use Rattle.placing.proofs.port_later.Statement.{statement}
 use Rattle.placing.proofs.port_later.Tie as tie
 
-is-free-requires : tie.Need-is-free-requires
-is-free-requires c κs = search needs
-
 returns : tie.Need-returns
 returns c = rw (sym (c .before .is-free .ensures) ∙ (c .if1 .taken))
 
@@ -14,4 +11,4 @@ returns-2 : tie.Need-returns-2
 returns-2 c = rw (sym (c .before .is-free .ensures) ∙ (c .if1 .left))
 
 pub port-later-spec : {M : Type 1} → statement M
-port-later-spec = tie.close (tie.spec is-free-requires returns returns-2)
+port-later-spec = tie.close (tie.spec (λ c κs. search needs) returns returns-2)

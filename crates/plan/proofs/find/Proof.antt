@@ -20,23 +20,11 @@ Inv-loop address subscribers end i₀ i = (i ≤ end) × ((k : ℕ) → k < i �
 abbrev μ-loop : tie.MeasureT-loop
 μ-loop address subscribers end i₀ i = end - i
 
-given-requires : tie.Need-given-requires Inv-loop μ-loop
-given-requires c κs = search needs
-
 returns : tie.Need-returns Inv-loop μ-loop
 returns c = sym (lookup-not-given _ _ (failed (c .before .given .ensures) (c .if1 .taken)))
 
-used-requires : tie.Need-used-requires Inv-loop μ-loop
-used-requires c κs = search needs
-
 loop-holds : tie.Need-loop-holds Inv-loop μ-loop
 loop-holds c = (search needs, below-none _)
-
-mul-s : tie.Need-mul-s Inv-loop μ-loop
-mul-s c = search needs
-
-array-copy-out-s : tie.Need-array-copy-out-s Inv-loop μ-loop
-array-copy-out-s c = search needs
 
 returns-2 : tie.Need-returns-2 Inv-loop μ-loop
 unfolding used
@@ -44,12 +32,6 @@ returns-2 c =
     sym (lookup-at _ _ (passed (c .before .before .before .before .before .before .before .before .given .ensures) (c .before .before .before .before .before .before .before .if1 .left)) _
     (rw (← c .before .before .before .before .before .used .ensures) (c .before .before .before .loop-test .taken))
     (c .before .before .before .before .loop .inv .1) (eq-eqb _ _ (c .if2 .taken)))
-
-add-i : tie.Need-add-i Inv-loop μ-loop
-add-i c = search needs
-
-loop-less : tie.Need-loop-less Inv-loop μ-loop
-loop-less c = search needs
 
 loop-again : tie.Need-loop-again Inv-loop μ-loop
 loop-again c = (search needs, below-more _ _ (c .before .before .before .before .loop .inv .1) (ne-eqb _ _ (c .if2 .left)))
@@ -64,14 +46,14 @@ find-spec =
     (tie.spec
     Inv-loop
     μ-loop
-    given-requires
+    (λ c κs. search needs)
     returns
-    used-requires
+    (λ c κs. search needs)
     loop-holds
-    mul-s
-    array-copy-out-s
+    (λ c. search needs)
+    (λ c. search needs)
     returns-2
-    add-i
-    loop-less
+    (λ c. search needs)
+    (λ c. search needs)
     loop-again
     returns-3)

@@ -5,9 +5,6 @@ use borrow.Author.Needs.{needs}
 use Rattle.plan.proofs.given.Statement.{statement}
 use Rattle.plan.proofs.given.Tie as tie
 
-legal-requires : tie.Need-legal-requires
-legal-requires c κs = search needs
-
 returns : tie.Need-returns
 unfolding given
 returns c = rw (failed (c .before .legal .ensures) (c .if1 .taken))
@@ -17,4 +14,4 @@ unfolding given
 returns-2 c = rw (passed (c .before .legal .ensures) (c .if1 .left))
 
 pub given-spec : {M : Type 1} → statement M
-given-spec = tie.close (tie.spec legal-requires returns returns-2)
+given-spec = tie.close (tie.spec (λ c κs. search needs) returns returns-2)

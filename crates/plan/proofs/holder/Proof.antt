@@ -7,18 +7,6 @@ use Rattle.plan.proofs.Lookup.{found-below}
 use Rattle.plan.proofs.holder.Statement.{statement}
 use Rattle.plan.proofs.holder.Tie as tie
 
-find-requires : tie.Need-find-requires
-find-requires c κs = search needs
-
-enum-known-i : tie.Need-enum-known-i
-enum-known-i c = search needs
-
-enum-told : tie.Need-enum-told
-enum-told c = search needs
-
-no-subscriber-requires : tie.Need-no-subscriber-requires
-no-subscriber-requires c κs = search needs
-
 returns : tie.Need-returns
 unfolding holderAt
 returns c = rw (sym (c .before .before .before .find .ensures) ∙ c .before .enum-told .given .1) (c .no-subscriber .ensures)
@@ -37,10 +25,10 @@ pub holder-spec : {M : Type 1} → statement M
 holder-spec =
     tie.close
     (tie.spec
-    find-requires
-    enum-known-i
-    enum-told
-    no-subscriber-requires
+    (λ c κs. search needs)
+    (λ c. search needs)
+    (λ c. search needs)
+    (λ c κs. search needs)
     returns
     mul-result
     array-copy-out-result

@@ -18,18 +18,6 @@ abbrev μ-loop : tie.MeasureT-loop
 loop-holds : tie.Need-loop-holds Inv-loop μ-loop
 loop-holds c = (search needs, search needs, below-none 256 (c .before .args .file .now))
 
-shared-slice-read-narrow : tie.Need-shared-slice-read-narrow Inv-loop μ-loop
-shared-slice-read-narrow c = search needs
-
-narrow-requires : tie.Need-narrow-requires Inv-loop μ-loop
-narrow-requires c κs = search needs
-
-add-i : tie.Need-add-i Inv-loop μ-loop
-add-i c = search needs
-
-loop-less : tie.Need-loop-less Inv-loop μ-loop
-loop-less c = search needs
-
 loop-again : tie.Need-loop-again Inv-loop μ-loop
 loop-again c = (search needs, search needs, below-more 256 (c .before .before .before .before .before .args .file .now) (c .before .before .before .loop .i) (omega arith) (c .before .before .before .loop .inv .2) (c .narrow .ensures))
 
@@ -43,9 +31,9 @@ all-bytes-spec =
     Inv-loop
     μ-loop
     loop-holds
-    shared-slice-read-narrow
-    narrow-requires
-    add-i
-    loop-less
+    (λ c. search needs)
+    (λ c κs. search needs)
+    (λ c. search needs)
+    (λ c. search needs)
     loop-again
     returns)

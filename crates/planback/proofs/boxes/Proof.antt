@@ -18,21 +18,6 @@ abbrev μ-loop : tie.MeasureT-loop
 loop-holds : tie.Need-loop-holds Inv-loop μ-loop
 loop-holds c = (search needs, below-none (2 ^ 16) (c .args .t1))
 
-mul-middle : tie.Need-mul-middle Inv-loop μ-loop
-mul-middle c = search needs
-
-array-read-middle : tie.Need-array-read-middle Inv-loop μ-loop
-array-read-middle c = search needs
-
-middle-requires : tie.Need-middle-requires Inv-loop μ-loop
-middle-requires c κs = search needs
-
-add-x : tie.Need-add-x Inv-loop μ-loop
-add-x c = search needs
-
-loop-less : tie.Need-loop-less Inv-loop μ-loop
-loop-less c = search needs
-
 loop-again : tie.Need-loop-again Inv-loop μ-loop
 loop-again c =
     let long : length (c .before .before .before .args .t1) ≡ 4 = search needs in
@@ -50,10 +35,10 @@ boxes-spec =
     Inv-loop
     μ-loop
     loop-holds
-    mul-middle
-    array-read-middle
-    middle-requires
-    add-x
-    loop-less
+    (λ c. search needs)
+    (λ c. search needs)
+    (λ c κs. search needs)
+    (λ c. search needs)
+    (λ c. search needs)
     loop-again
     returns)

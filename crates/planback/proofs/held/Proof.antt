@@ -4,30 +4,6 @@ use Rattle.planbytes.specs.Numbers.{Below}
 use Rattle.planback.proofs.held.Statement.{statement}
 use Rattle.planback.proofs.held.Tie as tie
 
-wide-requires : tie.Need-wide-requires
-wide-requires c κs = search needs
-
-wide-requires-2 : tie.Need-wide-requires-2
-wide-requires-2 c κs = search needs
-
-wide-requires-3 : tie.Need-wide-requires-3
-wide-requires-3 c κs = search needs
-
-wide-requires-4 : tie.Need-wide-requires-4
-wide-requires-4 c κs = search needs
-
-wide-requires-5 : tie.Need-wide-requires-5
-wide-requires-5 c κs = search needs
-
-rows-requires : tie.Need-rows-requires
-rows-requires c κs = search needs
-
-rows-requires-2 : tie.Need-rows-requires-2
-rows-requires-2 c κs = search needs
-
-subscribers-requires : tie.Need-subscribers-requires
-subscribers-requires c κs = search needs
-
 returns : tie.Need-returns
 unfolding Below
 returns c =
@@ -45,12 +21,12 @@ pub held-spec : {M : Type 1} → statement M
 held-spec =
     tie.close
     (tie.spec
-    wide-requires
-    wide-requires-2
-    wide-requires-3
-    wide-requires-4
-    wide-requires-5
-    rows-requires
-    rows-requires-2
-    subscribers-requires
+    (λ c κs. search needs)
+    (λ c κs. search needs)
+    (λ c κs. search needs)
+    (λ c κs. search needs)
+    (λ c κs. search needs)
+    (λ c κs. search needs)
+    (λ c κs. search needs)
+    (λ c κs. search needs)
     returns)

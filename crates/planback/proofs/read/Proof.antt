@@ -9,12 +9,6 @@ use Rattle.planback.proofs.Again.{as-accepted}
 use Rattle.planback.proofs.read.Statement.{statement}
 use Rattle.planback.proofs.read.Tie as tie
 
-all-bytes-requires : tie.Need-all-bytes-requires
-all-bytes-requires c κs = search needs
-
-read-requires : tie.Need-read-requires
-read-requires c κs = search needs
-
 returns : tie.Need-returns
 returns c = (
   c .read .ensures .0,
@@ -22,4 +16,4 @@ returns c = (
 )
 
 pub read-spec : {M : Type 1} → statement M
-read-spec = tie.close (tie.spec all-bytes-requires read-requires returns)
+read-spec = tie.close (tie.spec (λ c κs. search needs) (λ c κs. search needs) returns)

@@ -10,33 +10,15 @@ use Rattle.planback.proofs.Again.{again-refused, again-short, again-fit
 use Rattle.planback.proofs.rewrite.Statement.{statement}
 use Rattle.planback.proofs.rewrite.Tie as tie
 
-all-bytes-requires : tie.Need-all-bytes-requires
-all-bytes-requires c κs = search needs
-
-verdict-requires : tie.Need-verdict-requires
-verdict-requires c κs = search needs
-
-enum-known-answer : tie.Need-enum-known-answer
-enum-known-answer c = search needs
-
-enum-told : tie.Need-enum-told
-enum-told c = search needs
-
 returns : tie.Need-returns
 returns c =
     let is = again-short (c .before .before .before .before .before .before .before .args .file .now) (c .before .before .before .before .before .before .before .args .room .now) (c .before .before .before .verdict .ensures .0) (c .before .before .before .before .all-bytes .ensures) (c .before .enum-told .given .1) (c .if1 .taken) in
     (sym (is .0), sym (is .1))
 
-copy-requires : tie.Need-copy-requires
-copy-requires c κs = search needs
-
 returns-2 : tie.Need-returns-2
 returns-2 c =
     let is = again-refused (c .before .before .before .before .before .before .before .args .file .now) (c .before .before .before .before .before .before .before .args .room .now) (c .before .before .before .verdict .ensures .0) (c .before .answer .given .1) in
     (sym (is .0), sym (is .1))
-
-same-length : tie.Need-same-length
-same-length c = search needs
 
 returns-3 : tie.Need-returns-3
 returns-3 c =
@@ -48,12 +30,12 @@ pub rewrite-spec : {M : Type 1} → statement M
 rewrite-spec =
     tie.close
     (tie.spec
-    all-bytes-requires
-    verdict-requires
-    enum-known-answer
-    enum-told
+    (λ c κs. search needs)
+    (λ c κs. search needs)
+    (λ c. search needs)
+    (λ c. search needs)
     returns
-    copy-requires
+    (λ c κs. search needs)
     returns-2
-    same-length
+    (λ c. search needs)
     returns-3)

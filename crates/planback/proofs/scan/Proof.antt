@@ -10,12 +10,6 @@ use Rattle.planback.proofs.Again.{as-accepted}
 use Rattle.planback.proofs.scan.Statement.{statement}
 use Rattle.planback.proofs.scan.Tie as tie
 
-all-bytes-requires : tie.Need-all-bytes-requires
-all-bytes-requires c κs = search needs
-
-scan-requires : tie.Need-scan-requires
-scan-requires c κs = search needs
-
 returns : tie.Need-returns
 unfolding scanned
 returns c = (
@@ -25,4 +19,4 @@ returns c = (
 )
 
 pub scan-spec : {M : Type 1} → statement M
-scan-spec = tie.close (tie.spec all-bytes-requires scan-requires returns)
+scan-spec = tie.close (tie.spec (λ c κs. search needs) (λ c κs. search needs) returns)

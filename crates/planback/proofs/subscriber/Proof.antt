@@ -4,21 +4,6 @@ use Rattle.planbytes.specs.Numbers.{Below}
 use Rattle.planback.proofs.subscriber.Statement.{statement}
 use Rattle.planback.proofs.subscriber.Tie as tie
 
-narrow-requires : tie.Need-narrow-requires
-narrow-requires c κs = search needs
-
-wide-requires : tie.Need-wide-requires
-wide-requires c κs = search needs
-
-wide-requires-2 : tie.Need-wide-requires-2
-wide-requires-2 c κs = search needs
-
-wide-requires-3 : tie.Need-wide-requires-3
-wide-requires-3 c κs = search needs
-
-boxes-requires : tie.Need-boxes-requires
-boxes-requires c κs = search needs
-
 returns : tie.Need-returns
 unfolding Below
 returns c =
@@ -30,4 +15,4 @@ returns c =
     }
 
 pub subscriber-spec : {M : Type 1} → statement M
-subscriber-spec = tie.close (tie.spec narrow-requires wide-requires wide-requires-2 wide-requires-3 boxes-requires returns)
+subscriber-spec = tie.close (tie.spec (λ c κs. search needs) (λ c κs. search needs) (λ c κs. search needs) (λ c κs. search needs) (λ c κs. search needs) returns)

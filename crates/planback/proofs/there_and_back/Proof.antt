@@ -5,32 +5,11 @@ use borrow.Author.Needs.{needs}
 use Rattle.planback.proofs.there_and_back.Statement.{statement}
 use Rattle.planback.proofs.there_and_back.Tie as tie
 
-held-requires : tie.Need-held-requires
-held-requires c κs = search needs
-
-write-requires : tie.Need-write-requires
-write-requires c κs = search needs
-
-enum-known-answer : tie.Need-enum-known-answer
-enum-known-answer c = search needs
-
-unwritten-requires : tie.Need-unwritten-requires
-unwritten-requires c κs = search needs
-
-enum-known-answer-2 : tie.Need-enum-known-answer-2
-enum-known-answer-2 c = search needs
-
 read-first-requires : tie.Need-read-first-requires
 read-first-requires c κs = omega (arith, back-room (c .before .before .before .before .before .before .before .before .before .before .args .plan) (c .before .before .before .before .before .before .before .before .before .before .args .room .now) (c .before .before .before .before .before .before .write .ensures .0 .0) (c .before .before .answer2 .given .1) (c .before .before .before .before .before .before .write .ensures .0 .1))
 
-same-length : tie.Need-same-length
-same-length c = search needs
-
 returns : tie.Need-returns
 returns c = (back-refused (c .before .before .before .before .before .before .before .before .before .before .before .args .plan) (c .before .before .before .before .before .before .before .before .before .before .before .args .room .now) (c .before .before .before .before .before .before .before .write .ensures .0 .0) (c .before .before .before .answer .given .1) (c .unwritten .ensures), c .before .before .before .before .before .before .before .write .ensures .0 .1)
-
-same-length-2 : tie.Need-same-length-2
-same-length-2 c = search needs
 
 returns-2 : tie.Need-returns-2
 returns-2 c = (back-read (c .before .before .before .before .before .before .before .before .before .before .before .args .plan) (c .before .before .before .before .before .before .before .before .before .before .before .args .room .now) (c .before .before .before .before .before .before .before .write .ensures .0 .0) (c .before .before .before .answer2 .given .1) (c .before .before .before .before .before .before .before .write .ensures .0 .1) (c .before .before .before .before .before .before .before .before .before .held .ensures) (c .read-first .ensures), c .before .before .before .before .before .before .before .write .ensures .0 .1)
@@ -39,13 +18,13 @@ pub there-and-back-spec : {M : Type 1} → statement M
 there-and-back-spec =
     tie.close
     (tie.spec
-    held-requires
-    write-requires
-    enum-known-answer
-    unwritten-requires
-    enum-known-answer-2
+    (λ c κs. search needs)
+    (λ c κs. search needs)
+    (λ c. search needs)
+    (λ c κs. search needs)
+    (λ c. search needs)
     read-first-requires
-    same-length
+    (λ c. search needs)
     returns
-    same-length-2
+    (λ c. search needs)
     returns-2)

@@ -4,11 +4,8 @@ use borrow.Author.Needs.{needs}
 use Rattle.planback.proofs.unwritten.Statement.{statement}
 use Rattle.planback.proofs.unwritten.Tie as tie
 
-read-first-requires : tie.Need-read-first-requires
-read-first-requires c κs = search needs
-
 returns : tie.Need-returns
 returns c = beside-refusal (c .before .before .before .args .r) (c .before .read-first .ensures)
 
 pub unwritten-spec : {M : Type 1} → statement M
-unwritten-spec = tie.close (tie.spec read-first-requires returns)
+unwritten-spec = tie.close (tie.spec (λ c κs. search needs) returns)

@@ -5,9 +5,6 @@ use borrow.Author.Needs.{needs}
 use Rattle.planread.proofs.allowed.Statement.{statement}
 use Rattle.planread.proofs.allowed.Tie as tie
 
-add-result : tie.Need-add-result
-add-result c = search needs
-
 returns : tie.Need-returns
 unfolding allowed
 returns c = rw (lt-ltb _ 4 (c .if1 .taken))
@@ -21,4 +18,4 @@ unfolding allowed
 returns-3 c = rw (le-ltb _ 4 (c .before .if1 .left), ne-eqb _ 5 (c .if2 .left))
 
 pub allowed-spec : {M : Type 1} → statement M
-allowed-spec = tie.close (tie.spec add-result returns returns-2 returns-3)
+allowed-spec = tie.close (tie.spec (λ c. search needs) returns returns-2 returns-3)

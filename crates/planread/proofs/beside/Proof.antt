@@ -7,11 +7,8 @@ use Rattle.planread.proofs.beside.Tie as tie
 returns : tie.Need-returns
 returns c = rw (le-ltb _ _ (c .if1 .taken))
 
-fits-requires : tie.Need-fits-requires
-fits-requires c κs = search needs
-
 returns-2 : tie.Need-returns-2
 returns-2 c = rw (lt-ltb _ _ (c .before .if1 .left)) (c .fits2 .ensures)
 
 pub beside-spec : {M : Type 1} → statement M
-beside-spec = tie.close (tie.spec returns fits-requires returns-2)
+beside-spec = tie.close (tie.spec returns (λ c κs. search needs) returns-2)

@@ -4,12 +4,9 @@ use borrow.Author.Needs.{needs}
 use Rattle.planread.proofs.blank_plan.Statement.{statement}
 use Rattle.planread.proofs.blank_plan.Tie as tie
 
-no-subscriber-requires : tie.Need-no-subscriber-requires
-no-subscriber-requires c κs = search needs
-
 returns : tie.Need-returns
 unfolding blankPlan
 returns c = rw (c .no-subscriber .ensures)
 
 pub blank-plan-spec : {M : Type 1} → statement M
-blank-plan-spec = tie.close (tie.spec no-subscriber-requires returns)
+blank-plan-spec = tie.close (tie.spec (λ c κs. search needs) returns)

@@ -4,18 +4,6 @@ use borrow.Author.Needs.{needs}
 use Rattle.planread.proofs.boxes_at.Statement.{statement}
 use Rattle.planread.proofs.boxes_at.Tie as tie
 
-box-at-requires : tie.Need-box-at-requires
-box-at-requires c κs = search needs
-
-box-at-requires-2 : tie.Need-box-at-requires-2
-box-at-requires-2 c κs = search needs
-
-box-at-requires-3 : tie.Need-box-at-requires-3
-box-at-requires-3 c κs = search needs
-
-box-at-requires-4 : tie.Need-box-at-requires-4
-box-at-requires-4 c κs = search needs
-
 returns : tie.Need-returns
 returns c =
     let a = c .before .before .before .before .before .args in
@@ -24,4 +12,4 @@ returns c =
 pub boxes-at-spec : {M : Type 1} → statement M
 boxes-at-spec =
     tie.close
-    (tie.spec box-at-requires box-at-requires-2 box-at-requires-3 box-at-requires-4 returns)
+    (tie.spec (λ c κs. search needs) (λ c κs. search needs) (λ c κs. search needs) (λ c κs. search needs) returns)

@@ -21,9 +21,6 @@ returns-4 : tie.Need-returns-4
 unfolding everLong
 returns-4 c = rw (ne-eqb _ 1 (c .before .before .before .if1 .left), ne-eqb _ 2 (c .before .before .if2 .left), ne-eqb _ 3 (c .before .if3 .left), eq-eqb _ 4 (c .if4 .taken))
 
-subscriber-long-requires : tie.Need-subscriber-long-requires
-subscriber-long-requires c κs = search needs
-
 returns-5 : tie.Need-returns-5
 unfolding everLong
 returns-5 c = rw (ne-eqb _ 1 (c .before .before .before .before .before .if1 .left), ne-eqb _ 2 (c .before .before .before .before .if2 .left), ne-eqb _ 3 (c .before .before .before .if3 .left), ne-eqb _ 4 (c .before .before .if4 .left), eq-eqb _ 5 (c .before .if5 .taken)) (c .subscriber-long .ensures)
@@ -35,4 +32,4 @@ returns-6 c = rw (ne-eqb _ 1 (c .before .before .before .before .if1 .left), ne-
 pub ever-long-spec : {M : Type 1} → statement M
 ever-long-spec =
     tie.close
-    (tie.spec returns returns-2 returns-3 returns-4 subscriber-long-requires returns-5 returns-6)
+    (tie.spec returns returns-2 returns-3 returns-4 (λ c κs. search needs) returns-5 returns-6)

@@ -10,17 +10,11 @@ use borrow.Author.Needs.{needs}
 use Rattle.planread.proofs.finish.Statement.{statement}
 use Rattle.planread.proofs.finish.Tie as tie
 
-refused-requires : tie.Need-refused-requires
-refused-requires c κs = search needs
-
 returns : tie.Need-returns
 unfolding ended
 returns c =
     let left : eqb (length (drop (c .before .before .before .args .at) (c .before .before .before .args .bytes .now))) 0 ≡ false = ne-eqb (length (drop (c .before .before .before .args .at) (c .before .before .before .args .bytes .now))) 0 (λ z. let e = rw (length-drop (c .before .before .before .args .at) (c .before .before .before .args .bytes .now)) at z in omega arith) in
     rw left (c .refused .ensures)
-
-cast-t12 : tie.Need-cast-t12
-cast-t12 c = search needs
 
 returns-2 : tie.Need-returns-2
 unfolding ended
@@ -29,4 +23,4 @@ returns-2 c =
     rw none
 
 pub finish-spec : {M : Type 1} → statement M
-finish-spec = tie.close (tie.spec refused-requires returns cast-t12 returns-2)
+finish-spec = tie.close (tie.spec (λ c κs. search needs) returns (λ c. search needs) returns-2)

@@ -8,23 +8,8 @@ use borrow.Author.Needs.{needs}
 use Rattle.planread.proofs.fixed.Statement.{statement}
 use Rattle.planread.proofs.fixed.Tie as tie
 
-header-requires : tie.Need-header-requires
-header-requires c κs = search needs
-
-enum-known-verdict : tie.Need-enum-known-verdict
-enum-known-verdict c = search needs
-
-not-fixed-requires : tie.Need-not-fixed-requires
-not-fixed-requires c κs = search needs
-
-enum-told : tie.Need-enum-told
-enum-told c = search needs
-
 shared-slice-read-if1 : tie.Need-shared-slice-read-if1
 shared-slice-read-if1 c = omega (arith, version-room (c .before .before .before .before .before .args .bytes .now) (sym (c .before .before .before .header .ensures) ∙ c .before .enum-told .given .1))
-
-not-fixed-requires-2 : tie.Need-not-fixed-requires-2
-not-fixed-requires-2 c κs = search needs
 
 returns : tie.Need-returns
 returns c = not-on _ _ _ _ (c .not-fixed2 .ensures) (version-broken (c .before .before .before .before .before .before .before .args .bytes .now) (sym (c .before .before .before .before .before .header .ensures) ∙ c .before .before .before .enum-told .given .1) (ne-eqb _ 1 (c .before .if1 .taken)))
@@ -42,12 +27,12 @@ pub fixed-spec : {M : Type 1} → statement M
 fixed-spec =
     tie.close
     (tie.spec
-    header-requires
-    enum-known-verdict
-    not-fixed-requires
-    enum-told
+    (λ c κs. search needs)
+    (λ c. search needs)
+    (λ c κs. search needs)
+    (λ c. search needs)
     shared-slice-read-if1
-    not-fixed-requires-2
+    (λ c κs. search needs)
     returns
     fixed-types-requires
     returns-2

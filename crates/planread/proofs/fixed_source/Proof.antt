@@ -12,26 +12,8 @@ use borrow.Author.Needs.{needs}
 use Rattle.planread.proofs.fixed_source.Statement.{statement}
 use Rattle.planread.proofs.fixed_source.Tie as tie
 
-header-requires : tie.Need-header-requires
-header-requires c κs = search needs
-
-enum-known-verdict : tie.Need-enum-known-verdict
-enum-known-verdict c = search needs
-
-not-fixed-requires : tie.Need-not-fixed-requires
-not-fixed-requires c κs = search needs
-
-enum-told : tie.Need-enum-told
-enum-told c = search needs
-
 order-at-requires : tie.Need-order-at-requires
 order-at-requires c κs = omega (arith, source-room (c .before .before .before .before .args .bytes .now) (sym (c .before .before .header .ensures) ∙ c .enum-told .given .1))
-
-source-sound-requires : tie.Need-source-sound-requires
-source-sound-requires c κs = search needs
-
-not-fixed-requires-2 : tie.Need-not-fixed-requires-2
-not-fixed-requires-2 c κs = search needs
 
 returns : tie.Need-returns
 returns c = not-on _ _ _ _ (c .not-fixed2 .ensures) (source-broken (c .before .before .before .before .before .before .before .before .before .args .bytes .now) (sym (c .before .before .before .before .before .before .before .header .ensures) ∙ c .before .before .before .before .before .enum-told .given .1) (c .before .before .before .before .before .before .before .before .before .args .types) (replicate 32 0) (replicate 256 noSubscriber) (c .before .before .before .before .order-at .ensures) _ (failed (c .before .before .source-sound .ensures) (c .before .if1 .taken)))
@@ -49,13 +31,13 @@ pub fixed-source-spec : {M : Type 1} → statement M
 fixed-source-spec =
     tie.close
     (tie.spec
-    header-requires
-    enum-known-verdict
-    not-fixed-requires
-    enum-told
+    (λ c κs. search needs)
+    (λ c. search needs)
+    (λ c κs. search needs)
+    (λ c. search needs)
     order-at-requires
-    source-sound-requires
-    not-fixed-requires-2
+    (λ c κs. search needs)
+    (λ c κs. search needs)
     returns
     fixed-target-requires
     returns-2

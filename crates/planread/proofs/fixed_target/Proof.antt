@@ -12,26 +12,8 @@ use borrow.Author.Needs.{needs}
 use Rattle.planread.proofs.fixed_target.Statement.{statement}
 use Rattle.planread.proofs.fixed_target.Tie as tie
 
-header-requires : tie.Need-header-requires
-header-requires c κs = search needs
-
-enum-known-verdict : tie.Need-enum-known-verdict
-enum-known-verdict c = search needs
-
-not-fixed-requires : tie.Need-not-fixed-requires
-not-fixed-requires c κs = search needs
-
-enum-told : tie.Need-enum-told
-enum-told c = search needs
-
 order-at-requires : tie.Need-order-at-requires
 order-at-requires c κs = omega (arith, target-room (c .before .before .before .before .args .bytes .now) (sym (c .before .before .header .ensures) ∙ c .enum-told .given .1))
-
-target-sound-requires : tie.Need-target-sound-requires
-target-sound-requires c κs = search needs
-
-not-fixed-requires-2 : tie.Need-not-fixed-requires-2
-not-fixed-requires-2 c κs = search needs
 
 returns : tie.Need-returns
 returns c = not-on _ _ _ _ (c .not-fixed2 .ensures) (target-broken (c .before .before .before .before .before .before .before .before .before .before .args .bytes .now) (sym (c .before .before .before .before .before .before .before .before .header .ensures) ∙ c .before .before .before .before .before .before .enum-told .given .1) (c .before .before .before .before .before .before .before .before .before .before .args .types) (c .before .before .before .before .before .before .before .before .before .before .args .t3) (replicate 256 noSubscriber) (c .before .before .before .before .before .order-at .ensures) _ (failed (c .before .before .target-sound .ensures) (c .before .if1 .taken)))
@@ -46,13 +28,13 @@ pub fixed-target-spec : {M : Type 1} → statement M
 fixed-target-spec =
     tie.close
     (tie.spec
-    header-requires
-    enum-known-verdict
-    not-fixed-requires
-    enum-told
+    (λ c κs. search needs)
+    (λ c. search needs)
+    (λ c κs. search needs)
+    (λ c. search needs)
     order-at-requires
-    target-sound-requires
-    not-fixed-requires-2
+    (λ c κs. search needs)
+    (λ c κs. search needs)
     returns
     returns-2
     returns-3)

@@ -9,26 +9,8 @@ use borrow.Author.Needs.{needs}
 use Rattle.planread.proofs.fixed_types.Statement.{statement}
 use Rattle.planread.proofs.fixed_types.Tie as tie
 
-header-requires : tie.Need-header-requires
-header-requires c κs = search needs
-
-enum-known-verdict : tie.Need-enum-known-verdict
-enum-known-verdict c = search needs
-
-not-fixed-requires : tie.Need-not-fixed-requires
-not-fixed-requires c κs = search needs
-
-enum-told : tie.Need-enum-told
-enum-told c = search needs
-
 types-at-requires : tie.Need-types-at-requires
 types-at-requires c κs = omega (arith, types-room (c .before .before .before .before .args .bytes .now) (sym (c .before .before .header .ensures) ∙ c .enum-told .given .1))
-
-types-sound-requires : tie.Need-types-sound-requires
-types-sound-requires c κs = search needs
-
-not-fixed-requires-2 : tie.Need-not-fixed-requires-2
-not-fixed-requires-2 c κs = search needs
 
 returns : tie.Need-returns
 returns c = not-on _ _ _ _ (c .not-fixed2 .ensures) (types-broken (c .before .before .before .before .before .before .before .before .args .bytes .now) (sym (c .before .before .before .before .before .before .header .ensures) ∙ c .before .before .before .before .enum-told .given .1) (c .before .before .before .types-at .ensures) (failed (c .before .before .types-sound .ensures) (c .before .if1 .taken)))
@@ -46,13 +28,13 @@ pub fixed-types-spec : {M : Type 1} → statement M
 fixed-types-spec =
     tie.close
     (tie.spec
-    header-requires
-    enum-known-verdict
-    not-fixed-requires
-    enum-told
+    (λ c κs. search needs)
+    (λ c. search needs)
+    (λ c κs. search needs)
+    (λ c. search needs)
     types-at-requires
-    types-sound-requires
-    not-fixed-requires-2
+    (λ c κs. search needs)
+    (λ c κs. search needs)
     returns
     fixed-source-requires
     returns-2

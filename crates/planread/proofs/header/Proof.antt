@@ -6,44 +6,17 @@ use borrow.Author.Needs.{needs}
 use Rattle.planread.proofs.header.Statement.{statement}
 use Rattle.planread.proofs.header.Tie as tie
 
-sub-left : tie.Need-sub-left
-sub-left c = search needs
-
 returns : tie.Need-returns
 returns c = sym (header-cut (c .before .before .args .stage) (c .before .before .args .count) (c .before .before .args .at) (c .before .before .args .bytes .now) (c .if1 .taken))
-
-shared-slice-read-tag : tie.Need-shared-slice-read-tag
-shared-slice-read-tag c = search needs
-
-allowed-requires : tie.Need-allowed-requires
-allowed-requires c κs = search needs
 
 returns-2 : tie.Need-returns-2
 returns-2 c = sym (header-tag (c .before .before .before .before .before .args .stage) (c .before .before .before .before .before .args .count) (c .before .before .before .before .before .args .at) (c .before .before .before .before .before .args .bytes .now) (c .before .before .before .if1 .left) (failed (c .before .allowed .ensures) (c .if2 .taken)))
 
-too-many-requires : tie.Need-too-many-requires
-too-many-requires c κs = search needs
-
 returns-3 : tie.Need-returns-3
 returns-3 c = sym (header-many (c .before .before .before .before .before .before .before .args .stage) (c .before .before .before .before .before .before .before .args .count) (c .before .before .before .before .before .before .before .args .at) (c .before .before .before .before .before .before .before .args .bytes .now) (c .before .before .before .before .before .if1 .left) (passed (c .before .before .before .allowed .ensures) (c .before .before .if2 .left)) (sym (c .before .too-many .ensures) ∙ c .if3 .taken))
 
-add-two : tie.Need-add-two
-add-two c = search needs
-
-two-requires : tie.Need-two-requires
-two-requires c κs = search needs
-
-ever-long-requires : tie.Need-ever-long-requires
-ever-long-requires c κs = search needs
-
 returns-4 : tie.Need-returns-4
 returns-4 c = sym (header-long (c .before .before .before .before .before .before .before .before .before .before .args .stage) (c .before .before .before .before .before .before .before .before .before .before .args .count) (c .before .before .before .before .before .before .before .before .before .before .args .at) (c .before .before .before .before .before .before .before .before .before .before .args .bytes .now) (c .before .before .before .before .before .before .before .before .if1 .left) (passed (c .before .before .before .before .before .before .allowed .ensures) (c .before .before .before .before .before .if2 .left)) (sym (c .before .before .before .before .too-many .ensures) ∙ c .before .before .before .if3 .left) (c .before .before .two .ensures) (failed (c .before .ever-long .ensures) (c .if4 .taken)))
-
-cast-if5 : tie.Need-cast-if5
-cast-if5 c = search needs
-
-add-if5 : tie.Need-add-if5
-add-if5 c = search needs
 
 returns-5 : tie.Need-returns-5
 returns-5 c = sym (header-body (c .before .before .before .before .before .before .before .before .before .before .before .args .stage) (c .before .before .before .before .before .before .before .before .before .before .before .args .count) (c .before .before .before .before .before .before .before .before .before .before .before .args .at) (c .before .before .before .before .before .before .before .before .before .before .before .args .bytes .now) (c .before .before .before .before .before .before .before .before .before .if1 .left) (passed (c .before .before .before .before .before .before .before .allowed .ensures) (c .before .before .before .before .before .before .if2 .left)) (sym (c .before .before .before .before .before .too-many .ensures) ∙ c .before .before .before .before .if3 .left) (c .before .before .before .two .ensures) (passed (c .before .before .ever-long .ensures) (c .before .if4 .left)) (c .if5 .taken))
@@ -55,18 +28,18 @@ pub header-spec : {M : Type 1} → statement M
 header-spec =
     tie.close
     (tie.spec
-    sub-left
+    (λ c. search needs)
     returns
-    shared-slice-read-tag
-    allowed-requires
+    (λ c. search needs)
+    (λ c κs. search needs)
     returns-2
-    too-many-requires
+    (λ c κs. search needs)
     returns-3
-    add-two
-    two-requires
-    ever-long-requires
+    (λ c. search needs)
+    (λ c κs. search needs)
+    (λ c κs. search needs)
     returns-4
-    cast-if5
-    add-if5
+    (λ c. search needs)
+    (λ c. search needs)
     returns-5
     returns-6)

@@ -14,12 +14,6 @@ use Rattle.planread.proofs.keeps.Tie as tie
 own-broken : {r : Bool} (t : Types) (s : Subscriber) (b d : Bool) → boxesBlank s ≡ true → r ≡ listedSound t s → r ≡ false → false ≡ (ownSound t s && b && d)
 own-broken t s b d blank p q = rw (own-listed t s blank ∙ sym p ∙ q)
 
-listed-sound-requires : tie.Need-listed-sound-requires
-listed-sound-requires c κs = search needs
-
-beside-requires : tie.Need-beside-requires
-beside-requires c κs = search needs
-
 returns : tie.Need-returns
 returns c = rw (own-listed _ _ (c .before .before .before .pre) ∙ sym (c .before .before .listed-sound .ensures) ∙ c .before .if1 .taken) (c .beside .ensures)
 
@@ -27,4 +21,4 @@ returns-2 : tie.Need-returns-2
 returns-2 c = search (needs, own-broken)
 
 pub keeps-spec : {M : Type 1} → statement M
-keeps-spec = tie.close (tie.spec listed-sound-requires beside-requires returns returns-2)
+keeps-spec = tie.close (tie.spec (λ c κs. search needs) (λ c κs. search needs) returns returns-2)

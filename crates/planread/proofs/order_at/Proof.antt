@@ -21,26 +21,11 @@ abbrev μ-loop : tie.MeasureT-loop
 loop-holds : tie.Need-loop-holds Inv-loop μ-loop
 loop-holds c = (search needs, row-pad 32 4 32 _ (search needs) ∙ append-nil _)
 
-mul-four : tie.Need-mul-four Inv-loop μ-loop
-mul-four c = search needs
-
 add-four : tie.Need-add-four Inv-loop μ-loop
 add-four c = omega arith
 
 four-requires : tie.Need-four-requires Inv-loop μ-loop
 four-requires c κs = omega arith
-
-mul-rows : tie.Need-mul-rows Inv-loop μ-loop
-mul-rows c = search needs
-
-array-write-rows : tie.Need-array-write-rows Inv-loop μ-loop
-array-write-rows c = search needs
-
-add-t : tie.Need-add-t Inv-loop μ-loop
-add-t c = search needs
-
-loop-less : tie.Need-loop-less Inv-loop μ-loop
-loop-less c = search needs
 
 loop-again : tie.Need-loop-again Inv-loop μ-loop
 loop-again c =
@@ -60,12 +45,12 @@ order-at-spec =
     Inv-loop
     μ-loop
     loop-holds
-    mul-four
+    (λ c. search needs)
     add-four
     four-requires
-    mul-rows
-    array-write-rows
-    add-t
-    loop-less
+    (λ c. search needs)
+    (λ c. search needs)
+    (λ c. search needs)
+    (λ c. search needs)
     loop-again
     returns)

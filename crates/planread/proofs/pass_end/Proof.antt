@@ -17,9 +17,6 @@ returns c = λ t source target.
     let none : eqb (length (drop (c .before .before .args .at) (c .before .before .args .bytes .now))) 0 ≡ true = eq-eqb (length (drop (c .before .before .args .at) (c .before .before .args .bytes .now))) 0 (simp length-drop (omega arith)) in
     rw none refl
 
-stopped-requires : tie.Need-stopped-requires
-stopped-requires c κs = search needs
-
 returns-2 : tie.Need-returns-2
 unfolding shownEnd
 returns-2 c = λ t source target.
@@ -27,4 +24,4 @@ returns-2 c = λ t source target.
     rw left (sighted-refused t source target _ _ (c .stopped .ensures))
 
 pub pass-end-spec : {M : Type 1} → statement M
-pass-end-spec = tie.close (tie.spec returns stopped-requires returns-2)
+pass-end-spec = tie.close (tie.spec returns (λ c κs. search needs) returns-2)

@@ -24,38 +24,20 @@ Inv-loop bytes types first second taken₀ one₀ other₀ count₀ last₀ at�
 abbrev μ-loop : tie.MeasureT-loop
 μ-loop bytes types first second taken₀ one₀ other₀ count₀ last₀ at₀ taken one other count last at = 257 - count
 
-no-subscriber-requires : tie.Need-no-subscriber-requires Inv-loop μ-loop
-no-subscriber-requires c κs = search needs
-
-no-subscriber-requires-2 : tie.Need-no-subscriber-requires-2 Inv-loop μ-loop
-no-subscriber-requires-2 c κs = search needs
-
 loop-holds : tie.Need-loop-holds Inv-loop μ-loop
 loop-holds c = λ source target. passing-none (c .before .before .before .args .bytes .now) (c .before .before .before .args .types) source target (c .before .before .before .args .first) (c .before .before .before .args .second) (c .before .before .before .pre .0) (c .before .before .before .pre .1) (c .before .no-subscriber .ensures) (c .no-subscriber2 .ensures)
 
 header-requires : tie.Need-header-requires Inv-loop μ-loop
 header-requires c κs = (omega arith, c .loop .inv [] [] .going .inside)
 
-enum-known-verdict : tie.Need-enum-known-verdict Inv-loop μ-loop
-enum-known-verdict c = search needs
-
-stopped-requires : tie.Need-stopped-requires Inv-loop μ-loop
-stopped-requires c κs = search needs
-
 returns : tie.Need-returns Inv-loop μ-loop
 returns c = λ source target. sighted-refused _ _ _ _ _ (c .stopped .ensures) ∙ sym (scanned-refused (c .before .before .before .before .before .before .before .before .before .args .first) (c .before .before .before .before .before .before .before .before .before .args .second) (sym (c .before .before .before .before .before .loop .inv source target .going .result) ∙ turn-refused (c .before .before .before .before .before .before .before .before .before .args .types) source target (c .before .before .before .before .before .loop .inv source target .subs) (c .before .before .before .before .before .loop .count) (c .before .before .before .before .before .loop .at) (c .before .before .before .before .before .before .before .before .before .args .bytes .now) (c .before .before .before .before .before .loop .inv source target .going .few) (sym (c .before .before .before .before .header .ensures) ∙ c .before .before .verdict .given .1)))
-
-enum-told : tie.Need-enum-told Inv-loop μ-loop
-enum-told c = search needs
 
 shared-slice-read-if1 : tie.Need-shared-slice-read-if1 Inv-loop μ-loop
 shared-slice-read-if1 c = omega (arith, turn-inside (c .before .before .before .before .before .before .before .before .args .types) [] [] (c .before .before .before .before .loop .inv [] [] .subs) (c .before .before .before .before .loop .count) (c .before .before .before .before .loop .at) (c .before .before .before .before .before .before .before .before .args .bytes .now) (c .before .before .before .before .loop .inv [] [] .going .few) (sym (c .before .before .before .header .ensures) ∙ c .before .enum-told .given .1))
 
 add-pass-end : tie.Need-add-pass-end Inv-loop μ-loop
 add-pass-end c = omega (arith, turn-inside (c .before .before .before .before .before .before .before .before .before .args .types) [] [] (c .before .before .before .before .before .loop .inv [] [] .subs) (c .before .before .before .before .before .loop .count) (c .before .before .before .before .before .loop .at) (c .before .before .before .before .before .before .before .before .before .args .bytes .now) (c .before .before .before .before .before .loop .inv [] [] .going .few) (sym (c .before .before .before .before .header .ensures) ∙ c .before .before .enum-told .given .1))
-
-pass-end-requires : tie.Need-pass-end-requires Inv-loop μ-loop
-pass-end-requires c κs = search needs
 
 returns-2 : tie.Need-returns-2 Inv-loop μ-loop
 returns-2 c = λ source target. c .pass-end .ensures _ source target ∙ rw (c .before .before .before .before .before .before .loop .inv source target .one-is, c .before .before .before .before .before .before .loop .inv source target .other-is) (sym (scanned-end (c .before .before .before .before .before .before .before .before .before .before .args .types) source target (c .before .before .before .before .before .before .loop .inv source target .subs) (c .before .before .before .before .before .before .loop .count) (c .before .before .before .before .before .before .before .before .before .before .args .first) (c .before .before .before .before .before .before .before .before .before .before .args .second) _ _)) ∙ ap (scanned (c .before .before .before .before .before .before .before .before .before .before .args .first) (c .before .before .before .before .before .before .before .before .before .before .args .second)) (sym (turn-end (c .before .before .before .before .before .before .before .before .before .before .args .types) source target (c .before .before .before .before .before .before .loop .inv source target .subs) (c .before .before .before .before .before .before .loop .count) (c .before .before .before .before .before .before .loop .at) (c .before .before .before .before .before .before .before .before .before .before .args .bytes .now) (c .before .before .before .before .before .before .loop .inv source target .going .few) (sym (c .before .before .before .before .before .header .ensures) ∙ c .before .before .before .enum-told .given .1) (c .before .if1 .taken)) ∙ c .before .before .before .before .before .before .loop .inv source target .going .result)
@@ -65,9 +47,6 @@ add-two c = omega (arith, turn-inside (c .before .before .before .before .before
 
 two-requires : tie.Need-two-requires Inv-loop μ-loop
 two-requires c κs = omega (arith, turn-inside (c .before .before .before .before .before .before .before .before .before .args .types) [] [] (c .before .before .before .before .before .loop .inv [] [] .subs) (c .before .before .before .before .before .loop .count) (c .before .before .before .before .before .loop .at) (c .before .before .before .before .before .before .before .before .before .args .bytes .now) (c .before .before .before .before .before .loop .inv [] [] .going .few) (sym (c .before .before .before .before .header .ensures) ∙ c .before .before .enum-told .given .1))
-
-cast-n : tie.Need-cast-n Inv-loop μ-loop
-cast-n c = search needs
 
 add-subscriber-at : tie.Need-add-subscriber-at Inv-loop μ-loop
 add-subscriber-at c = omega (arith, turn-inside (c .before .before .before .before .before .before .before .before .before .before .args .types) [] [] (c .before .before .before .before .before .before .loop .inv [] [] .subs) (c .before .before .before .before .before .before .loop .count) (c .before .before .before .before .before .before .loop .at) (c .before .before .before .before .before .before .before .before .before .before .args .bytes .now) (c .before .before .before .before .before .before .loop .inv [] [] .going .few) (sym (c .before .before .before .before .before .header .ensures) ∙ c .before .before .before .enum-told .given .1))
@@ -87,14 +66,8 @@ keeps-requires c κs =
     let l = c .before .before .before .before .before .before .before .before .loop in
     turn-blank (a .types) [] [] (l .inv [] [] .subs) (l .count) (l .at) (a .bytes .now) (l .inv [] [] .going .few) (sym (c .before .before .before .before .before .before .before .header .ensures) ∙ c .before .before .before .before .before .enum-told .given .1) (c .before .before .before .if1 .left) (c .before .before .two .ensures) (c .before .subscriber-at .ensures)
 
-stopped-requires-2 : tie.Need-stopped-requires-2 Inv-loop μ-loop
-stopped-requires-2 c κs = search needs
-
 returns-3 : tie.Need-returns-3 Inv-loop μ-loop
 returns-3 c = λ source target. sighted-refused _ _ _ _ _ (c .stopped2 .ensures) ∙ sym (scanned-refused (c .before .before .before .before .before .before .before .before .before .before .before .before .before .before .before .args .first) (c .before .before .before .before .before .before .before .before .before .before .before .before .before .before .before .args .second) (sym (c .before .before .before .before .before .before .before .before .before .before .before .loop .inv source target .going .result) ∙ turn-broken (c .before .before .before .before .before .before .before .before .before .before .before .before .before .before .before .args .types) source target (c .before .before .before .before .before .before .before .before .before .before .before .loop .inv source target .subs) (c .before .before .before .before .before .before .before .before .before .before .before .loop .count) (c .before .before .before .before .before .before .before .before .before .before .before .loop .at) (c .before .before .before .before .before .before .before .before .before .before .before .before .before .before .before .args .bytes .now) (c .before .before .before .before .before .before .before .before .before .before .before .loop .inv source target .going .few) (sym (c .before .before .before .before .before .before .before .before .before .before .header .ensures) ∙ c .before .before .before .before .before .before .before .before .enum-told .given .1) (c .before .before .before .before .before .before .if1 .left) (c .before .before .before .before .before .two .ensures) (c .before .before .before .before .subscriber-at .ensures) (failed (keeps-is (c .before .before .before .before .before .before .before .before .before .before .before .before .before .before .before .args .types) (c .before .before .before .before .before .before .before .before .before .before .before .loop .inv source target .subs) (c .before .before .before .before .before .before .before .before .before .before .before .loop .count) (c .before .before .before .before .subscriber-at .result) (c .before .before .before .before .before .before .before .before .before .before .before .loop .taken) (rw (c .before .before .before .before .before .before .before .before .before .before .before .loop .inv source target .going .places) (turn-count (c .before .before .before .before .before .before .before .before .before .before .before .before .before .before .before .args .types) source target (c .before .before .before .before .before .before .before .before .before .before .before .loop .inv source target .subs) (c .before .before .before .before .before .before .before .before .before .before .before .loop .count) (c .before .before .before .before .before .before .before .before .before .before .before .loop .at) (c .before .before .before .before .before .before .before .before .before .before .before .before .before .before .before .args .bytes .now) (c .before .before .before .before .before .before .before .before .before .before .before .loop .inv source target .going .few) (sym (c .before .before .before .before .before .before .before .before .before .before .header .ensures) ∙ c .before .before .before .before .before .before .before .before .enum-told .given .1) (c .before .before .before .before .before .before .if1 .left) (c .before .before .before .before .before .two .ensures))) (c .before .before .before .before .before .before .before .before .before .before .before .loop .inv source target .going .kept) (c .before .before .before .before .before .before .before .before .before .before .before .loop .inv source target .going .table) (c .before .before .before .before .before .before .before .before .before .before .before .loop .inv source target .going .last-is) (c .before .before .keeps .ensures)) (c .before .if2 .taken))))
-
-claim-requires : tie.Need-claim-requires Inv-loop μ-loop
-claim-requires c κs = search needs
 
 add-count : tie.Need-add-count Inv-loop μ-loop
 add-count c = omega (arith, turn-count (c .before .before .before .before .before .before .before .before .before .before .before .before .before .before .before .before .before .before .before .before .args .types) [] [] (c .before .before .before .before .before .before .before .before .before .before .before .before .before .before .before .before .loop .inv [] [] .subs) (c .before .before .before .before .before .before .before .before .before .before .before .before .before .before .before .before .loop .count) (c .before .before .before .before .before .before .before .before .before .before .before .before .before .before .before .before .loop .at) (c .before .before .before .before .before .before .before .before .before .before .before .before .before .before .before .before .before .before .before .before .args .bytes .now) (c .before .before .before .before .before .before .before .before .before .before .before .before .before .before .before .before .loop .inv [] [] .going .few) (sym (c .before .before .before .before .before .before .before .before .before .before .before .before .before .before .before .header .ensures) ∙ c .before .before .before .before .before .before .before .before .before .before .before .before .before .enum-told .given .1) (c .before .before .before .before .before .before .before .before .before .before .before .if1 .left) (c .before .before .before .before .before .before .before .before .before .before .two .ensures))
@@ -130,28 +103,28 @@ pass-subscribers-spec =
     (tie.spec
     Inv-loop
     μ-loop
-    no-subscriber-requires
-    no-subscriber-requires-2
+    (λ c κs. search needs)
+    (λ c κs. search needs)
     loop-holds
     header-requires
-    enum-known-verdict
-    stopped-requires
+    (λ c. search needs)
+    (λ c κs. search needs)
     returns
-    enum-told
+    (λ c. search needs)
     shared-slice-read-if1
     add-pass-end
-    pass-end-requires
+    (λ c κs. search needs)
     returns-2
     add-two
     two-requires
-    cast-n
+    (λ c. search needs)
     add-subscriber-at
     sub-subscriber-at
     subscriber-at-requires
     keeps-requires
-    stopped-requires-2
+    (λ c κs. search needs)
     returns-3
-    claim-requires
+    (λ c κs. search needs)
     add-count
     add-at
     add-at-2

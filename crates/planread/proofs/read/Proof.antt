@@ -6,18 +6,6 @@ use borrow.Author.Needs.{needs}
 use Rattle.planread.proofs.read.Statement.{statement}
 use Rattle.planread.proofs.read.Tie as tie
 
-fixed-requires : tie.Need-fixed-requires
-fixed-requires c κs = search needs
-
-enum-known-verdict : tie.Need-enum-known-verdict
-enum-known-verdict c = search needs
-
-refused-requires : tie.Need-refused-requires
-refused-requires c κs = search needs
-
-enum-told : tie.Need-enum-told
-enum-told c = search needs
-
 read-subscribers-requires : tie.Need-read-subscribers-requires
 read-subscribers-requires c κs = (c .before .before .before .before .before .before .fixed .ensures .1 (c .before .enum-told .given .1), search needs)
 
@@ -31,10 +19,10 @@ pub read-spec : {M : Type 1} → statement M
 read-spec =
     tie.close
     (tie.spec
-    fixed-requires
-    enum-known-verdict
-    refused-requires
-    enum-told
+    (λ c κs. search needs)
+    (λ c. search needs)
+    (λ c κs. search needs)
+    (λ c. search needs)
     read-subscribers-requires
     returns
     returns-2)

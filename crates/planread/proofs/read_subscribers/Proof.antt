@@ -20,26 +20,14 @@ Inv-loop bytes types source target taken₀ subscribers₀ count₀ last₀ at�
 abbrev μ-loop : tie.MeasureT-loop
 μ-loop bytes types source target taken₀ subscribers₀ count₀ last₀ at₀ taken subscribers count last at = 257 - count
 
-no-subscriber-requires : tie.Need-no-subscriber-requires Inv-loop μ-loop
-no-subscriber-requires c κs = search needs
-
 loop-holds : tie.Need-loop-holds Inv-loop μ-loop
 loop-holds c = rw (c .no-subscriber .ensures) (going-none (c .before .before .args .bytes .now) (c .before .before .args .types) (c .before .before .args .source) (c .before .before .args .target) (c .before .before .pre .0) (c .before .before .pre .1))
 
 header-requires : tie.Need-header-requires Inv-loop μ-loop
 header-requires c κs = (omega arith, c .loop .inv .inside)
 
-enum-known-verdict : tie.Need-enum-known-verdict Inv-loop μ-loop
-enum-known-verdict c = search needs
-
-refused-requires : tie.Need-refused-requires Inv-loop μ-loop
-refused-requires c κs = search needs
-
 returns : tie.Need-returns Inv-loop μ-loop
 returns c = c .refused .ensures ∙ sym (turn-refused (c .before .before .before .before .before .before .before .before .args .types) (c .before .before .before .before .before .before .before .before .args .source) (c .before .before .before .before .before .before .before .before .args .target) (c .before .before .before .before .before .loop .subscribers) (c .before .before .before .before .before .loop .count) (c .before .before .before .before .before .loop .at) (c .before .before .before .before .before .before .before .before .args .bytes .now) (c .before .before .before .before .before .loop .inv .few) (sym (c .before .before .before .before .header .ensures) ∙ c .before .before .verdict .given .1)) ∙ c .before .before .before .before .before .loop .inv .result
-
-enum-told : tie.Need-enum-told Inv-loop μ-loop
-enum-told c = search needs
 
 shared-slice-read-if1 : tie.Need-shared-slice-read-if1 Inv-loop μ-loop
 shared-slice-read-if1 c = omega (arith, turn-inside (c .before .before .before .before .before .before .before .args .types) (c .before .before .before .before .before .before .before .args .source) (c .before .before .before .before .before .before .before .args .target) (c .before .before .before .before .loop .subscribers) (c .before .before .before .before .loop .count) (c .before .before .before .before .loop .at) (c .before .before .before .before .before .before .before .args .bytes .now) (c .before .before .before .before .loop .inv .few) (sym (c .before .before .before .header .ensures) ∙ c .before .enum-told .given .1))
@@ -58,9 +46,6 @@ add-two c = omega (arith, turn-inside (c .before .before .before .before .before
 
 two-requires : tie.Need-two-requires Inv-loop μ-loop
 two-requires c κs = omega (arith, turn-inside (c .before .before .before .before .before .before .before .before .args .types) (c .before .before .before .before .before .before .before .before .args .source) (c .before .before .before .before .before .before .before .before .args .target) (c .before .before .before .before .before .loop .subscribers) (c .before .before .before .before .before .loop .count) (c .before .before .before .before .before .loop .at) (c .before .before .before .before .before .before .before .before .args .bytes .now) (c .before .before .before .before .before .loop .inv .few) (sym (c .before .before .before .before .header .ensures) ∙ c .before .before .enum-told .given .1))
-
-cast-n : tie.Need-cast-n Inv-loop μ-loop
-cast-n c = search needs
 
 add-subscriber-at : tie.Need-add-subscriber-at Inv-loop μ-loop
 add-subscriber-at c = omega (arith, turn-inside (c .before .before .before .before .before .before .before .before .before .args .types) (c .before .before .before .before .before .before .before .before .before .args .source) (c .before .before .before .before .before .before .before .before .before .args .target) (c .before .before .before .before .before .before .loop .subscribers) (c .before .before .before .before .before .before .loop .count) (c .before .before .before .before .before .before .loop .at) (c .before .before .before .before .before .before .before .before .before .args .bytes .now) (c .before .before .before .before .before .before .loop .inv .few) (sym (c .before .before .before .before .before .header .ensures) ∙ c .before .before .before .enum-told .given .1))
@@ -81,14 +66,8 @@ keeps-requires c κs =
     let l = c .before .before .before .before .before .before .before .before .loop in
     turn-blank (a .types) (a .source) (a .target) (l .subscribers) (l .count) (l .at) (a .bytes .now) (l .inv .few) (sym (c .before .before .before .before .before .before .before .header .ensures) ∙ c .before .before .before .before .before .enum-told .given .1) (c .before .before .before .if1 .left) (c .before .before .two .ensures) (c .before .subscriber-at .ensures)
 
-refused-requires-2 : tie.Need-refused-requires-2 Inv-loop μ-loop
-refused-requires-2 c κs = search needs
-
 returns-3 : tie.Need-returns-3 Inv-loop μ-loop
 returns-3 c = c .refused2 .ensures ∙ sym (turn-broken (c .before .before .before .before .before .before .before .before .before .before .before .before .before .before .args .types) (c .before .before .before .before .before .before .before .before .before .before .before .before .before .before .args .source) (c .before .before .before .before .before .before .before .before .before .before .before .before .before .before .args .target) (c .before .before .before .before .before .before .before .before .before .before .before .loop .subscribers) (c .before .before .before .before .before .before .before .before .before .before .before .loop .count) (c .before .before .before .before .before .before .before .before .before .before .before .loop .at) (c .before .before .before .before .before .before .before .before .before .before .before .before .before .before .args .bytes .now) (c .before .before .before .before .before .before .before .before .before .before .before .loop .inv .few) (sym (c .before .before .before .before .before .before .before .before .before .before .header .ensures) ∙ c .before .before .before .before .before .before .before .before .enum-told .given .1) (c .before .before .before .before .before .before .if1 .left) (c .before .before .before .before .before .two .ensures) (c .before .before .before .before .subscriber-at .ensures) (failed (keeps-is (c .before .before .before .before .before .before .before .before .before .before .before .before .before .before .args .types) (c .before .before .before .before .before .before .before .before .before .before .before .loop .subscribers) (c .before .before .before .before .before .before .before .before .before .before .before .loop .count) (c .before .before .before .before .subscriber-at .result) (c .before .before .before .before .before .before .before .before .before .before .before .loop .taken) (rw (c .before .before .before .before .before .before .before .before .before .before .before .loop .inv .places) (turn-count (c .before .before .before .before .before .before .before .before .before .before .before .before .before .before .args .types) (c .before .before .before .before .before .before .before .before .before .before .before .before .before .before .args .source) (c .before .before .before .before .before .before .before .before .before .before .before .before .before .before .args .target) (c .before .before .before .before .before .before .before .before .before .before .before .loop .subscribers) (c .before .before .before .before .before .before .before .before .before .before .before .loop .count) (c .before .before .before .before .before .before .before .before .before .before .before .loop .at) (c .before .before .before .before .before .before .before .before .before .before .before .before .before .before .args .bytes .now) (c .before .before .before .before .before .before .before .before .before .before .before .loop .inv .few) (sym (c .before .before .before .before .before .before .before .before .before .before .header .ensures) ∙ c .before .before .before .before .before .before .before .before .enum-told .given .1) (c .before .before .before .before .before .before .if1 .left) (c .before .before .before .before .before .two .ensures))) (c .before .before .before .before .before .before .before .before .before .before .before .loop .inv .kept) (c .before .before .before .before .before .before .before .before .before .before .before .loop .inv .table) (c .before .before .before .before .before .before .before .before .before .before .before .loop .inv .last-is) (c .before .before .keeps .ensures)) (c .before .if2 .taken))) ∙ c .before .before .before .before .before .before .before .before .before .before .before .loop .inv .result
-
-claim-requires : tie.Need-claim-requires Inv-loop μ-loop
-claim-requires c κs = search needs
 
 mul-subscribers : tie.Need-mul-subscribers Inv-loop μ-loop
 mul-subscribers c = omega (arith, turn-count (c .before .before .before .before .before .before .before .before .before .before .before .before .before .before .before .args .types) (c .before .before .before .before .before .before .before .before .before .before .before .before .before .before .before .args .source) (c .before .before .before .before .before .before .before .before .before .before .before .before .before .before .before .args .target) (c .before .before .before .before .before .before .before .before .before .before .before .before .loop .subscribers) (c .before .before .before .before .before .before .before .before .before .before .before .before .loop .count) (c .before .before .before .before .before .before .before .before .before .before .before .before .loop .at) (c .before .before .before .before .before .before .before .before .before .before .before .before .before .before .before .args .bytes .now) (c .before .before .before .before .before .before .before .before .before .before .before .before .loop .inv .few) (sym (c .before .before .before .before .before .before .before .before .before .before .before .header .ensures) ∙ c .before .before .before .before .before .before .before .before .before .enum-told .given .1) (c .before .before .before .before .before .before .before .if1 .left) (c .before .before .before .before .before .before .two .ensures))
@@ -123,27 +102,27 @@ read-subscribers-spec =
     (tie.spec
     Inv-loop
     μ-loop
-    no-subscriber-requires
+    (λ c κs. search needs)
     loop-holds
     header-requires
-    enum-known-verdict
-    refused-requires
+    (λ c. search needs)
+    (λ c κs. search needs)
     returns
-    enum-told
+    (λ c. search needs)
     shared-slice-read-if1
     add-finish
     finish-requires
     returns-2
     add-two
     two-requires
-    cast-n
+    (λ c. search needs)
     add-subscriber-at
     sub-subscriber-at
     subscriber-at-requires
     keeps-requires
-    refused-requires-2
+    (λ c κs. search needs)
     returns-3
-    claim-requires
+    (λ c κs. search needs)
     mul-subscribers
     array-set-from-subscribers
     add-count

@@ -3,11 +3,8 @@ use borrow.Author.Needs.{needs}
 use Rattle.planread.proofs.refused.Statement.{statement}
 use Rattle.planread.proofs.refused.Tie as tie
 
-blank-plan-requires : tie.Need-blank-plan-requires
-blank-plan-requires c κs = search needs
-
 returns : tie.Need-returns
 returns c = rw (c .blank-plan .ensures)
 
 pub refused-spec : {M : Type 1} → statement M
-refused-spec = tie.close (tie.spec blank-plan-requires returns)
+refused-spec = tie.close (tie.spec (λ c κs. search needs) returns)

@@ -7,23 +7,8 @@ use borrow.Author.Needs.{needs}
 use Rattle.planread.proofs.scan.Statement.{statement}
 use Rattle.planread.proofs.scan.Tie as tie
 
-fixed-requires : tie.Need-fixed-requires
-fixed-requires c κs = search needs
-
-enum-known-verdict : tie.Need-enum-known-verdict
-enum-known-verdict c = search needs
-
-unseen-requires : tie.Need-unseen-requires
-unseen-requires c κs = search needs
-
-enum-told : tie.Need-enum-told
-enum-told c = search needs
-
 pass-subscribers-requires : tie.Need-pass-subscribers-requires
 pass-subscribers-requires c κs = (c .before .before .before .before .before .before .fixed .ensures .1 (c .before .enum-told .given .1), search needs)
-
-sighted-requires : tie.Need-sighted-requires
-sighted-requires c κs = search needs
 
 returns : tie.Need-returns
 returns c = c .unseen .ensures ∙ sym (scanned-refused (c .before .before .before .before .before .before .before .before .before .args .first) (c .before .before .before .before .before .before .before .before .before .args .second) (sym (on-refused _ _ _ _ (c .before .before .before .before .before .before .before .fixed .ensures .0) (c .before .before .verdict .given .1))))
@@ -35,11 +20,11 @@ pub scan-spec : {M : Type 1} → statement M
 scan-spec =
     tie.close
     (tie.spec
-    fixed-requires
-    enum-known-verdict
-    unseen-requires
-    enum-told
+    (λ c κs. search needs)
+    (λ c. search needs)
+    (λ c κs. search needs)
+    (λ c. search needs)
     pass-subscribers-requires
-    sighted-requires
+    (λ c κs. search needs)
     returns
     returns-2)

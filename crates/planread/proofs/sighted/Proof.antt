@@ -5,15 +5,6 @@ use borrow.Author.Needs.{needs}
 use Rattle.planread.proofs.sighted.Statement.{statement}
 use Rattle.planread.proofs.sighted.Tie as tie
 
-enum-known-answer : tie.Need-enum-known-answer
-enum-known-answer c = search needs
-
-unseen-requires : tie.Need-unseen-requires
-unseen-requires c κs = search needs
-
-enum-told : tie.Need-enum-told
-enum-told c = search needs
-
 returns : tie.Need-returns
 returns c = c .unseen .ensures ∙ sym (sighted-refused _ _ _ _ _ (c .before .before .answer .given .1))
 
@@ -21,4 +12,4 @@ returns-2 : tie.Need-returns-2
 returns-2 c = rw (c .enum-told .given .1)
 
 pub sighted-spec : {M : Type 1} → statement M
-sighted-spec = tie.close (tie.spec enum-known-answer unseen-requires enum-told returns returns-2)
+sighted-spec = tie.close (tie.spec (λ c. search needs) (λ c κs. search needs) (λ c. search needs) returns returns-2)

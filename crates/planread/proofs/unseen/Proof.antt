@@ -5,15 +5,9 @@ use Rattle.planread.specs.Scanning.{unseen}
 use Rattle.planread.proofs.unseen.Statement.{statement}
 use Rattle.planread.proofs.unseen.Tie as tie
 
-no-types-requires : tie.Need-no-types-requires
-no-types-requires c κs = search needs
-
-no-subscriber-requires : tie.Need-no-subscriber-requires
-no-subscriber-requires c κs = search needs
-
 returns : tie.Need-returns
 unfolding unseen
 returns c = rw (c .before .no-types .ensures, c .no-subscriber .ensures) refl
 
 pub unseen-spec : {M : Type 1} → statement M
-unseen-spec = tie.close (tie.spec no-types-requires no-subscriber-requires returns)
+unseen-spec = tie.close (tie.spec (λ c κs. search needs) (λ c κs. search needs) returns)

@@ -8,15 +8,6 @@ use borrow.Author.Needs.{needs}
 use Rattle.planread.proofs.verdict.Statement.{statement}
 use Rattle.planread.proofs.verdict.Tie as tie
 
-fixed-requires : tie.Need-fixed-requires
-fixed-requires c κs = search needs
-
-enum-known-answer : tie.Need-enum-known-answer
-enum-known-answer c = search needs
-
-enum-told : tie.Need-enum-told
-enum-told c = search needs
-
 pass-subscribers-requires : tie.Need-pass-subscribers-requires
 pass-subscribers-requires c κs = (c .before .before .before .before .fixed .ensures .1 (c .before .enum-told .given .1), search needs)
 
@@ -33,9 +24,9 @@ pub verdict-spec : {M : Type 1} → statement M
 verdict-spec =
     tie.close
     (tie.spec
-    fixed-requires
-    enum-known-answer
-    enum-told
+    (λ c κs. search needs)
+    (λ c. search needs)
+    (λ c. search needs)
     pass-subscribers-requires
     returns
     returns-2)

@@ -19,29 +19,11 @@ abbrev μ-loop : tie.MeasureT-loop
 loop-holds : tie.Need-loop-holds Inv-loop μ-loop
 loop-holds c = (search needs, refl, row-all 2 _ _ _)
 
-mul-put-two : tie.Need-mul-put-two Inv-loop μ-loop
-mul-put-two c = search needs
-
 add-put-two : tie.Need-add-put-two Inv-loop μ-loop
 add-put-two c = omega arith
 
-mul-put-two-2 : tie.Need-mul-put-two-2 Inv-loop μ-loop
-mul-put-two-2 c = search needs
-
-array-read-put-two : tie.Need-array-read-put-two Inv-loop μ-loop
-array-read-put-two c = search needs
-
-cast-put-two : tie.Need-cast-put-two Inv-loop μ-loop
-cast-put-two c = search needs
-
 put-two-requires : tie.Need-put-two-requires Inv-loop μ-loop
 put-two-requires c κs = omega arith
-
-add-x : tie.Need-add-x Inv-loop μ-loop
-add-x c = search needs
-
-loop-less : tie.Need-loop-less Inv-loop μ-loop
-loop-less c = search needs
 
 loop-again : tie.Need-loop-again Inv-loop μ-loop
 loop-again c =
@@ -72,14 +54,14 @@ put-boxes-spec =
     Inv-loop
     μ-loop
     loop-holds
-    mul-put-two
+    (λ c. search needs)
     add-put-two
-    mul-put-two-2
-    array-read-put-two
-    cast-put-two
+    (λ c. search needs)
+    (λ c. search needs)
+    (λ c. search needs)
     put-two-requires
-    add-x
-    loop-less
+    (λ c. search needs)
+    (λ c. search needs)
     loop-again
     same-length
     returns)

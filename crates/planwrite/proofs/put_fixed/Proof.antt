@@ -8,30 +8,6 @@ use borrow.Author.Needs.{needs}
 use Rattle.planwrite.proofs.put_fixed.Statement.{statement}
 use Rattle.planwrite.proofs.put_fixed.Tie as tie
 
-put-one-requires : tie.Need-put-one-requires
-put-one-requires c κs = search needs
-
-add-put-four : tie.Need-add-put-four
-add-put-four c = search needs
-
-put-four-requires : tie.Need-put-four-requires
-put-four-requires c κs = search needs
-
-add-put-four-2 : tie.Need-add-put-four-2
-add-put-four-2 c = search needs
-
-put-four-requires-2 : tie.Need-put-four-requires-2
-put-four-requires-2 c κs = search needs
-
-add-put-four-3 : tie.Need-add-put-four-3
-add-put-four-3 c = search needs
-
-put-four-requires-3 : tie.Need-put-four-requires-3
-put-four-requires-3 c κs = search needs
-
-same-length : tie.Need-same-length
-same-length c = search needs
-
 returns : tie.Need-returns
 unfolding high row
 returns c = puts-then (c .before .before .before .before .before .before .before .before .before .before .before .before .before .before .before .before .before .args .room .now) (((high 1 (c .before .before .before .before .before .before .before .before .before .before .before .before .before .before .before .before .before .args .s .kind)) ++ (high 4 (c .before .before .before .before .before .before .before .before .before .before .before .before .before .before .before .before .before .args .s .address))) ++ (high 4 (c .before .before .before .before .before .before .before .before .before .before .before .before .before .before .before .before .before .args .s .source))) (high 4 (c .before .before .before .before .before .before .before .before .before .before .before .before .before .before .before .before .before .args .s .target)) (c .before .before .before .before .before .before .before .before .before .before .before .before .before .before .before .before .before .args .at) 9 (c .before .before .before .before .before .before .before .before .before .before .before .before .before .before .before .before .before .args .at + 9) (puts-then (c .before .before .before .before .before .before .before .before .before .before .before .before .before .before .before .before .before .args .room .now) ((high 1 (c .before .before .before .before .before .before .before .before .before .before .before .before .before .before .before .before .before .args .s .kind)) ++ (high 4 (c .before .before .before .before .before .before .before .before .before .before .before .before .before .before .before .before .before .args .s .address))) (high 4 (c .before .before .before .before .before .before .before .before .before .before .before .before .before .before .before .before .before .args .s .source)) (c .before .before .before .before .before .before .before .before .before .before .before .before .before .before .before .before .before .args .at) 5 (c .before .before .before .before .before .before .before .before .before .before .before .before .before .before .before .before .before .args .at + 5) (puts-then (c .before .before .before .before .before .before .before .before .before .before .before .before .before .before .before .before .before .args .room .now) (high 1 (c .before .before .before .before .before .before .before .before .before .before .before .before .before .before .before .before .before .args .s .kind)) (high 4 (c .before .before .before .before .before .before .before .before .before .before .before .before .before .before .before .before .before .args .s .address)) (c .before .before .before .before .before .before .before .before .before .before .before .before .before .before .before .before .before .args .at) 1 (c .before .before .before .before .before .before .before .before .before .before .before .before .before .before .before .before .before .args .at + 1) (c .before .before .before .before .before .before .before .before .before .before .before .before .before .before .put-one .ensures) (c .before .before .before .before .before .before .before .before .before .before .put-four .ensures) refl refl) (c .before .before .before .before .before .before .put-four2 .ensures) refl refl) (c .before .before .put-four3 .ensures) refl refl
@@ -40,12 +16,12 @@ pub put-fixed-spec : {M : Type 1} → statement M
 put-fixed-spec =
     tie.close
     (tie.spec
-    put-one-requires
-    add-put-four
-    put-four-requires
-    add-put-four-2
-    put-four-requires-2
-    add-put-four-3
-    put-four-requires-3
-    same-length
+    (λ c κs. search needs)
+    (λ c. search needs)
+    (λ c κs. search needs)
+    (λ c. search needs)
+    (λ c κs. search needs)
+    (λ c. search needs)
+    (λ c κs. search needs)
+    (λ c. search needs)
     returns)

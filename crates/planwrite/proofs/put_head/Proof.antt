@@ -5,21 +5,6 @@ use borrow.Author.Needs.{needs}
 use Rattle.planwrite.proofs.put_head.Statement.{statement}
 use Rattle.planwrite.proofs.put_head.Tie as tie
 
-put-version-requires : tie.Need-put-version-requires
-put-version-requires c κs = search needs
-
-put-types-requires : tie.Need-put-types-requires
-put-types-requires c κs = search needs
-
-put-order-requires : tie.Need-put-order-requires
-put-order-requires c κs = search needs
-
-put-order-requires-2 : tie.Need-put-order-requires-2
-put-order-requires-2 c κs = search needs
-
-same-length : tie.Need-same-length
-same-length c = search needs
-
 returns : tie.Need-returns
 returns c = (
   head-put (c .before .before .before .before .before .before .before .before .before .before .before .before .before .before .before .before .before .args .room .now) (c .before .before .before .before .before .before .before .before .before .before .before .before .before .before .before .before .before .args .types) (c .before .before .before .before .before .before .before .before .before .before .before .before .before .before .before .before .before .args .source) (c .before .before .before .before .before .before .before .before .before .before .before .before .before .before .before .before .before .args .target) (c .before .before .before .before .before .before .put-order .ensures .1) (c .before .before .before .before .before .before .before .before .before .before .before .before .before .before .put-version .ensures) (c .before .before .before .before .before .before .before .before .before .before .put-types .ensures) (c .before .before .before .before .before .before .put-order .ensures .0) (c .before .before .put-order2 .ensures .0),
@@ -31,9 +16,9 @@ pub put-head-spec : {M : Type 1} → statement M
 put-head-spec =
     tie.close
     (tie.spec
-    put-version-requires
-    put-types-requires
-    put-order-requires
-    put-order-requires-2
-    same-length
+    (λ c κs. search needs)
+    (λ c κs. search needs)
+    (λ c κs. search needs)
+    (λ c κs. search needs)
+    (λ c. search needs)
     returns)

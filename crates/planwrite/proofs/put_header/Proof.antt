@@ -8,21 +8,9 @@ use borrow.Author.Needs.{needs}
 use Rattle.planwrite.proofs.put_header.Statement.{statement}
 use Rattle.planwrite.proofs.put_header.Tie as tie
 
-put-one-requires : tie.Need-put-one-requires
-put-one-requires c κs = search needs
-
-add-put-two : tie.Need-add-put-two
-add-put-two c = search needs
-
-put-two-requires : tie.Need-put-two-requires
-put-two-requires c κs = search needs
-
-same-length : tie.Need-same-length
-same-length c = search needs
-
 returns : tie.Need-returns
 returns c = puts-then (c .before .before .before .before .before .before .before .before .before .args .room .now) (high 1 (c .before .before .before .before .before .before .before .before .before .args .tag)) (high 2 (c .before .before .before .before .before .before .before .before .before .args .n)) (c .before .before .before .before .before .before .before .before .before .args .at) 1 (c .before .before .before .before .before .before .before .before .before .args .at + 1) (c .before .before .before .before .before .before .put-one .ensures) (c .before .before .put-two .ensures) (high-length 1 _) refl
 
 pub put-header-spec : {M : Type 1} → statement M
 put-header-spec =
-    tie.close (tie.spec put-one-requires add-put-two put-two-requires same-length returns)
+    tie.close (tie.spec (λ c κs. search needs) (λ c. search needs) (λ c κs. search needs) (λ c. search needs) returns)

@@ -4,14 +4,8 @@ use borrow.Author.Needs.{needs}
 use Rattle.planwrite.proofs.put_one.Statement.{statement}
 use Rattle.planwrite.proofs.put_one.Tie as tie
 
-slice-write-room : tie.Need-slice-write-room
-slice-write-room c = search needs
-
-same-length : tie.Need-same-length
-same-length c = search needs
-
 returns : tie.Need-returns
 returns c = low-byte (c .args .room .now) (c .args .at) (search needs)
 
 pub put-one-spec : {M : Type 1} → statement M
-put-one-spec = tie.close (tie.spec slice-write-room same-length returns)
+put-one-spec = tie.close (tie.spec (λ c. search needs) (λ c. search needs) returns)

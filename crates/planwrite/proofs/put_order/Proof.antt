@@ -6,18 +6,6 @@ use borrow.Author.Needs.{needs}
 use Rattle.planwrite.proofs.put_order.Statement.{statement}
 use Rattle.planwrite.proofs.put_order.Tie as tie
 
-put-header-requires : tie.Need-put-header-requires
-put-header-requires c κs = search needs
-
-add-put-rows : tie.Need-add-put-rows
-add-put-rows c = search needs
-
-put-rows-requires : tie.Need-put-rows-requires
-put-rows-requires c κs = search needs
-
-same-length : tie.Need-same-length
-same-length c = search needs
-
 returns : tie.Need-returns
 returns c =
     let long : length (c .before .before .before .before .before .before .before .before .before .args .rows) ≡ 32 = search needs in
@@ -25,4 +13,4 @@ returns c =
 
 pub put-order-spec : {M : Type 1} → statement M
 put-order-spec =
-    tie.close (tie.spec put-header-requires add-put-rows put-rows-requires same-length returns)
+    tie.close (tie.spec (λ c κs. search needs) (λ c. search needs) (λ c κs. search needs) (λ c. search needs) returns)

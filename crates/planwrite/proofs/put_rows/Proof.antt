@@ -20,26 +20,11 @@ abbrev μ-loop : tie.MeasureT-loop
 loop-holds : tie.Need-loop-holds Inv-loop μ-loop
 loop-holds c = (search needs, refl, row-all 4 _ _ _)
 
-mul-put-four : tie.Need-mul-put-four Inv-loop μ-loop
-mul-put-four c = search needs
-
 add-put-four : tie.Need-add-put-four Inv-loop μ-loop
 add-put-four c = omega arith
 
-mul-put-four-2 : tie.Need-mul-put-four-2 Inv-loop μ-loop
-mul-put-four-2 c = search needs
-
-array-read-put-four : tie.Need-array-read-put-four Inv-loop μ-loop
-array-read-put-four c = search needs
-
 put-four-requires : tie.Need-put-four-requires Inv-loop μ-loop
 put-four-requires c κs = omega arith
-
-add-t : tie.Need-add-t Inv-loop μ-loop
-add-t c = search needs
-
-loop-less : tie.Need-loop-less Inv-loop μ-loop
-loop-less c = search needs
 
 loop-again : tie.Need-loop-again Inv-loop μ-loop
 loop-again c =
@@ -67,13 +52,13 @@ put-rows-spec =
     Inv-loop
     μ-loop
     loop-holds
-    mul-put-four
+    (λ c. search needs)
     add-put-four
-    mul-put-four-2
-    array-read-put-four
+    (λ c. search needs)
+    (λ c. search needs)
     put-four-requires
-    add-t
-    loop-less
+    (λ c. search needs)
+    (λ c. search needs)
     loop-again
     same-length
     returns)

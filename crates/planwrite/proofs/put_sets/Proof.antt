@@ -9,36 +9,6 @@ use borrow.Author.Needs.{needs}
 use Rattle.planwrite.proofs.put_sets.Statement.{statement}
 use Rattle.planwrite.proofs.put_sets.Tie as tie
 
-put-four-requires : tie.Need-put-four-requires
-put-four-requires c κs = search needs
-
-add-put-four : tie.Need-add-put-four
-add-put-four c = search needs
-
-put-four-requires-2 : tie.Need-put-four-requires-2
-put-four-requires-2 c κs = search needs
-
-add-put-four-2 : tie.Need-add-put-four-2
-add-put-four-2 c = search needs
-
-put-four-requires-3 : tie.Need-put-four-requires-3
-put-four-requires-3 c κs = search needs
-
-add-put-four-3 : tie.Need-add-put-four-3
-add-put-four-3 c = search needs
-
-put-four-requires-4 : tie.Need-put-four-requires-4
-put-four-requires-4 c κs = search needs
-
-add-put-four-4 : tie.Need-add-put-four-4
-add-put-four-4 c = search needs
-
-put-four-requires-5 : tie.Need-put-four-requires-5
-put-four-requires-5 c κs = search needs
-
-same-length : tie.Need-same-length
-same-length c = search needs
-
 returns : tie.Need-returns
 unfolding high row typesBody
 returns c = puts-then (c .before .before .before .before .before .before .before .before .before .before .before .before .before .before .before .before .before .before .before .before .before .args .room .now) (high 4 (c .before .before .before .before .before .before .before .before .before .before .before .before .before .before .before .before .before .before .before .before .before .args .t .existing) ++ high 4 (c .before .before .before .before .before .before .before .before .before .before .before .before .before .before .before .before .before .before .before .before .before .args .t .bound) ++ high 4 (c .before .before .before .before .before .before .before .before .before .before .before .before .before .before .before .before .before .before .before .before .before .args .t .reversible) ++ high 4 (c .before .before .before .before .before .before .before .before .before .before .before .before .before .before .before .before .before .before .before .before .before .args .t .«source_choice»)) (high 4 (c .before .before .before .before .before .before .before .before .before .before .before .before .before .before .before .before .before .before .before .before .before .args .t .«target_choice»)) (c .before .before .before .before .before .before .before .before .before .before .before .before .before .before .before .before .before .before .before .before .before .args .at) 16 (c .before .before .before .before .before .before .before .before .before .before .before .before .before .before .before .before .before .before .before .before .before .args .at + 16) (puts-then (c .before .before .before .before .before .before .before .before .before .before .before .before .before .before .before .before .before .before .before .before .before .args .room .now) (high 4 (c .before .before .before .before .before .before .before .before .before .before .before .before .before .before .before .before .before .before .before .before .before .args .t .existing) ++ high 4 (c .before .before .before .before .before .before .before .before .before .before .before .before .before .before .before .before .before .before .before .before .before .args .t .bound) ++ high 4 (c .before .before .before .before .before .before .before .before .before .before .before .before .before .before .before .before .before .before .before .before .before .args .t .reversible)) (high 4 (c .before .before .before .before .before .before .before .before .before .before .before .before .before .before .before .before .before .before .before .before .before .args .t .«source_choice»)) (c .before .before .before .before .before .before .before .before .before .before .before .before .before .before .before .before .before .before .before .before .before .args .at) 12 (c .before .before .before .before .before .before .before .before .before .before .before .before .before .before .before .before .before .before .before .before .before .args .at + 12) (puts-then (c .before .before .before .before .before .before .before .before .before .before .before .before .before .before .before .before .before .before .before .before .before .args .room .now) (high 4 (c .before .before .before .before .before .before .before .before .before .before .before .before .before .before .before .before .before .before .before .before .before .args .t .existing) ++ high 4 (c .before .before .before .before .before .before .before .before .before .before .before .before .before .before .before .before .before .before .before .before .before .args .t .bound)) (high 4 (c .before .before .before .before .before .before .before .before .before .before .before .before .before .before .before .before .before .before .before .before .before .args .t .reversible)) (c .before .before .before .before .before .before .before .before .before .before .before .before .before .before .before .before .before .before .before .before .before .args .at) 8 (c .before .before .before .before .before .before .before .before .before .before .before .before .before .before .before .before .before .before .before .before .before .args .at + 8) (puts-then (c .before .before .before .before .before .before .before .before .before .before .before .before .before .before .before .before .before .before .before .before .before .args .room .now) (high 4 (c .before .before .before .before .before .before .before .before .before .before .before .before .before .before .before .before .before .before .before .before .before .args .t .existing)) (high 4 (c .before .before .before .before .before .before .before .before .before .before .before .before .before .before .before .before .before .before .before .before .before .args .t .bound)) (c .before .before .before .before .before .before .before .before .before .before .before .before .before .before .before .before .before .before .before .before .before .args .at) 4 (c .before .before .before .before .before .before .before .before .before .before .before .before .before .before .before .before .before .before .before .before .before .args .at + 4) (c .before .before .before .before .before .before .before .before .before .before .before .before .before .before .before .before .before .before .put-four .ensures) (c .before .before .before .before .before .before .before .before .before .before .before .before .before .before .put-four2 .ensures) refl refl) (c .before .before .before .before .before .before .before .before .before .before .put-four3 .ensures) refl refl) (c .before .before .before .before .before .before .put-four4 .ensures) refl refl) (c .before .before .put-four5 .ensures) refl refl
@@ -47,14 +17,14 @@ pub put-sets-spec : {M : Type 1} → statement M
 put-sets-spec =
     tie.close
     (tie.spec
-    put-four-requires
-    add-put-four
-    put-four-requires-2
-    add-put-four-2
-    put-four-requires-3
-    add-put-four-3
-    put-four-requires-4
-    add-put-four-4
-    put-four-requires-5
-    same-length
+    (λ c κs. search needs)
+    (λ c. search needs)
+    (λ c κs. search needs)
+    (λ c. search needs)
+    (λ c κs. search needs)
+    (λ c. search needs)
+    (λ c κs. search needs)
+    (λ c. search needs)
+    (λ c κs. search needs)
+    (λ c. search needs)
     returns)

@@ -37,9 +37,6 @@ put-subscriber-requires c κs =
 add-i : tie.Need-add-i Inv-loop μ-loop
 add-i c = omega arith
 
-sub-left : tie.Need-sub-left Inv-loop μ-loop
-sub-left c = search needs
-
 loop-less : tie.Need-loop-less Inv-loop μ-loop
 loop-less c = omega arith
 
@@ -80,7 +77,7 @@ put-subscribers-spec =
     array-copy-out-s
     put-subscriber-requires
     add-i
-    sub-left
+    (λ c. search needs)
     loop-less
     loop-again
     same-length

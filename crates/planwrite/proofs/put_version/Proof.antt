@@ -8,18 +8,9 @@ use borrow.Author.Needs.{needs}
 use Rattle.planwrite.proofs.put_version.Statement.{statement}
 use Rattle.planwrite.proofs.put_version.Tie as tie
 
-put-header-requires : tie.Need-put-header-requires
-put-header-requires c κs = search needs
-
-put-one-requires : tie.Need-put-one-requires
-put-one-requires c κs = search needs
-
-same-length : tie.Need-same-length
-same-length c = search needs
-
 returns : tie.Need-returns
 unfolding high field versionBody
 returns c = puts-then (c .before .before .before .before .before .before .before .before .before .args .room .now) (high 1 1 ++ high 2 1) (high 1 1) 0 3 3 (c .before .before .before .before .before .before .put-header .ensures) (c .before .before .put-one .ensures) refl refl
 
 pub put-version-spec : {M : Type 1} → statement M
-put-version-spec = tie.close (tie.spec put-header-requires put-one-requires same-length returns)
+put-version-spec = tie.close (tie.spec (λ c κs. search needs) (λ c κs. search needs) (λ c. search needs) returns)

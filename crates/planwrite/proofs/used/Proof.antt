@@ -6,9 +6,6 @@ use borrow.Author.Needs.{needs}
 use Rattle.planwrite.proofs.used.Statement.{statement}
 use Rattle.planwrite.proofs.used.Tie as tie
 
-cast-result : tie.Need-cast-result
-cast-result c = search needs
-
 returns : tie.Need-returns
 returns c =
     let long : length (c .before .before .before .args .s .boxes) ≡ 4 = search needs in
@@ -20,4 +17,4 @@ returns-2 c =
     (simp (length-take, long) (omega arith), search needs)
 
 pub used-spec : {M : Type 1} → statement M
-used-spec = tie.close (tie.spec cast-result returns returns-2)
+used-spec = tie.close (tie.spec (λ c. search needs) returns returns-2)

@@ -4,15 +4,6 @@ use borrow.Author.Needs.{needs}
 use Rattle.planwrite.proofs.write.Statement.{statement}
 use Rattle.planwrite.proofs.write.Tie as tie
 
-sound-requires : tie.Need-sound-requires
-sound-requires c κs = search needs
-
-write-tested-requires : tie.Need-write-tested-requires
-write-tested-requires c κs = search needs
-
-same-length : tie.Need-same-length
-same-length c = search needs
-
 returns : tie.Need-returns
 returns c =
     let a = c .before .before .before .before .before .before .args in
@@ -21,4 +12,4 @@ returns c =
     said (a .plan) (a .room .now) (rw kept at (tested .0), rw kept at (tested .1))
 
 pub write-spec : {M : Type 1} → statement M
-write-spec = tie.close (tie.spec sound-requires write-tested-requires same-length returns)
+write-spec = tie.close (tie.spec (λ c κs. search needs) (λ c κs. search needs) (λ c. search needs) returns)

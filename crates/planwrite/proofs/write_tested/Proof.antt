@@ -9,9 +9,6 @@ use borrow.Author.Needs.{needs}
 use Rattle.planwrite.proofs.write_tested.Statement.{statement}
 use Rattle.planwrite.proofs.write_tested.Tie as tie
 
-places-requires : tie.Need-places-requires
-places-requires c κs = search needs
-
 returns : tie.Need-returns
 returns c =
     let a = c .before .before .before .before .before .before .before .args in
@@ -19,15 +16,6 @@ returns c =
     let columns : length (a .plan .«target_order») ≡ 32 = search needs in
     let kept : a .kept ≡ false = failed refl (c .if1 .taken) in
     write-broken (a .plan) rows columns (a .kept) (a .room .now) kept
-
-put-subscribers-requires : tie.Need-put-subscribers-requires
-put-subscribers-requires c κs = search needs
-
-add-size : tie.Need-add-size
-add-size c = search needs
-
-same-length : tie.Need-same-length
-same-length c = search needs
 
 returns-2 : tie.Need-returns-2
 returns-2 c =
@@ -40,18 +28,6 @@ returns-2 c =
     let same = c .before .before .before .put-subscribers .ensures .0 in
     let end = rw all at (c .before .before .before .put-subscribers .ensures .1) in
     write-short (a .plan) rows columns (a .kept) (a .room .now) same kept (omega (arith, end, ap length same))
-
-put-head-requires : tie.Need-put-head-requires
-put-head-requires c κs = search needs
-
-put-subscribers-requires-2 : tie.Need-put-subscribers-requires-2
-put-subscribers-requires-2 c κs = search needs
-
-put-header-requires : tie.Need-put-header-requires
-put-header-requires c κs = search needs
-
-same-length-2 : tie.Need-same-length-2
-same-length-2 c = search needs
 
 returns-3 : tie.Need-returns-3
 returns-3 c =
@@ -68,14 +44,14 @@ pub write-tested-spec : {M : Type 1} → statement M
 write-tested-spec =
     tie.close
     (tie.spec
-    places-requires
+    (λ c κs. search needs)
     returns
-    put-subscribers-requires
-    add-size
-    same-length
+    (λ c κs. search needs)
+    (λ c. search needs)
+    (λ c. search needs)
     returns-2
-    put-head-requires
-    put-subscribers-requires-2
-    put-header-requires
-    same-length-2
+    (λ c κs. search needs)
+    (λ c κs. search needs)
+    (λ c κs. search needs)
+    (λ c. search needs)
     returns-3)

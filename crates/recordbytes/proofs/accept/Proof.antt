@@ -13,18 +13,6 @@ use borrow.Author.Needs.{needs}
 use Rattle.recordbytes.proofs.accept.Statement.{statement}
 use Rattle.recordbytes.proofs.accept.Tie as tie
 
-end-at-requires : tie.Need-end-at-requires
-end-at-requires c κs = search needs
-
-answer-requires : tie.Need-answer-requires
-answer-requires c κs = search needs
-
-one-sent-requires : tie.Need-one-sent-requires
-one-sent-requires c κs = search needs
-
-same-length : tie.Need-same-length
-same-length c = search needs
-
 returns : tie.Need-returns
 returns c =
     let a = c .before .before .before .before .before .before .before .before .args in
@@ -33,4 +21,4 @@ returns c =
 
 pub accept-spec : {M : Type 1} → statement M
 accept-spec =
-    tie.close (tie.spec end-at-requires answer-requires one-sent-requires same-length returns)
+    tie.close (tie.spec (λ c κs. search needs) (λ c κs. search needs) (λ c κs. search needs) (λ c. search needs) returns)

@@ -8,30 +8,15 @@ use borrow.Author.Needs.{needs}
 use Rattle.recordbytes.proofs.command_at.Statement.{statement}
 use Rattle.recordbytes.proofs.command_at.Tie as tie
 
-nowhere-requires : tie.Need-nowhere-requires
-nowhere-requires c κs = search needs
-
 returns : tie.Need-returns
 returns c =
     let a = c .before .before .before .args in
     not-there (a .row .now) (a .at) (a .k) (omega (arith, c .before .if1 .taken)) (c .nowhere .ensures)
 
-sub-if2 : tie.Need-sub-if2
-sub-if2 c = search needs
-
-nowhere-requires-2 : tie.Need-nowhere-requires-2
-nowhere-requires-2 c κs = search needs
-
 returns-2 : tie.Need-returns-2
 returns-2 c =
     let a = c .before .before .before .before .args in
     not-there (a .row .now) (a .at) (a .k) (c .before .if2 .taken) (c .nowhere2 .ensures)
-
-step-in-requires : tie.Need-step-in-requires
-step-in-requires c κs = search needs
-
-same-length : tie.Need-same-length
-same-length c = search needs
 
 returns-3 : tie.Need-returns-3
 returns-3 c =
@@ -45,11 +30,11 @@ pub command-at-spec : {M : Type 1} → statement M
 command-at-spec =
     tie.close
     (tie.spec
-    nowhere-requires
+    (λ c κs. search needs)
     returns
-    sub-if2
-    nowhere-requires-2
+    (λ c. search needs)
+    (λ c κs. search needs)
     returns-2
-    step-in-requires
-    same-length
+    (λ c κs. search needs)
+    (λ c. search needs)
     returns-3)

@@ -14,35 +14,11 @@ use borrow.Author.Needs.{needs}
 use Rattle.recordbytes.proofs.deliver.Statement.{statement}
 use Rattle.recordbytes.proofs.deliver.Tie as tie
 
-queue-to-requires : tie.Need-queue-to-requires
-queue-to-requires c κs = search needs
-
-add-q : tie.Need-add-q
-add-q c = search needs
-
-slice-read-if1 : tie.Need-slice-read-if1
-slice-read-if1 c = search needs
-
 returns : tie.Need-returns
 returns c =
     let a = c .before .before .before .before .args in
     let d = recordFrom (a .row .now) (a .at) in
     refusing-as (a .row .now) (a .at) (deliver-none d (a .s) (sym (to-count (a .row .now) (a .at) (c .before .before .before .before .pre .0) (a .s) (c .before .before .queue-to .ensures .0)) ∙ c .if1 .taken))
-
-head-at-requires : tie.Need-head-at-requires
-head-at-requires c κs = search needs
-
-end-at-requires : tie.Need-end-at-requires
-end-at-requires c κs = search needs
-
-take-requires : tie.Need-take-requires
-take-requires c κs = search needs
-
-enum-known-v : tie.Need-enum-known-v
-enum-known-v c = search needs
-
-enum-known-v-2 : tie.Need-enum-known-v-2
-enum-known-v-2 c = search needs
 
 replied-requires : tie.Need-replied-requires
 replied-requires c κs =
@@ -50,9 +26,6 @@ replied-requires c κs =
     let d = recordFrom (a .row .now) (a .at) in
     let n = to-count (a .row .now) (a .at) (c .before .before .before .before .before .before .before .before .before .before .before .before .before .pre .0) (a .s) (c .before .before .before .before .before .before .before .before .before .before .before .queue-to .ensures .0) in
     (c .before .before .before .before .before .before .before .before .before .before .before .before .before .pre .0, rw n at (pos (c .before .before .before .before .before .before .before .before .before .if1 .left)))
-
-same-length : tie.Need-same-length
-same-length c = search needs
 
 returns-2 : tie.Need-returns-2
 returns-2 c =
@@ -63,9 +36,6 @@ returns-2 c =
     let x = c .before .before .before .before .before .before .head-at .ensures in
     let t : takes (stateOf (a .s) d) (slot (queueTo (a .s) d .slots) 0 .signal) ≡ Refuse (c .before .v .given .0 .0) = sym (c .before .before .before .take .ensures ∙ ap₂ (λ (e : End) (y : Signal). takes (e .state) y) (c .before .before .before .before .end-at .ensures) x) ∙ c .before .v .given .1 in
     refusing-as (a .row .now) (a .at) (deliver-refuse d (a .s) _ h t)
-
-same-length-2 : tie.Need-same-length-2
-same-length-2 c = search needs
 
 returns-3 : tie.Need-returns-3
 returns-3 c =
@@ -81,17 +51,17 @@ pub deliver-spec : {M : Type 1} → statement M
 deliver-spec =
     tie.close
     (tie.spec
-    queue-to-requires
-    add-q
-    slice-read-if1
+    (λ c κs. search needs)
+    (λ c. search needs)
+    (λ c. search needs)
     returns
-    head-at-requires
-    end-at-requires
-    take-requires
-    enum-known-v
-    enum-known-v-2
+    (λ c κs. search needs)
+    (λ c κs. search needs)
+    (λ c κs. search needs)
+    (λ c. search needs)
+    (λ c. search needs)
     replied-requires
-    same-length
+    (λ c. search needs)
     returns-2
-    same-length-2
+    (λ c. search needs)
     returns-3)

@@ -8,18 +8,6 @@ use borrow.Author.Needs.{needs}
 use Rattle.recordbytes.proofs.end_at.Statement.{statement}
 use Rattle.recordbytes.proofs.end_at.Tie as tie
 
-state-place-requires : tie.Need-state-place-requires
-state-place-requires c κs = search needs
-
-add-state-said : tie.Need-add-state-said
-add-state-said c = search needs
-
-shared-slice-read-state-said : tie.Need-shared-slice-read-state-said
-shared-slice-read-state-said c = search needs
-
-state-said-requires : tie.Need-state-said-requires
-state-said-requires c κs = search needs
-
 returns : tie.Need-returns
 returns c =
     let a = c .before .before .before .before .args in
@@ -29,8 +17,8 @@ pub end-at-spec : {M : Type 1} → statement M
 end-at-spec =
     tie.close
     (tie.spec
-    state-place-requires
-    add-state-said
-    shared-slice-read-state-said
-    state-said-requires
+    (λ c κs. search needs)
+    (λ c. search needs)
+    (λ c. search needs)
+    (λ c κs. search needs)
     returns)

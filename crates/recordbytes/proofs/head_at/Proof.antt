@@ -8,33 +8,6 @@ use borrow.Author.Needs.{needs}
 use Rattle.recordbytes.proofs.head_at.Statement.{statement}
 use Rattle.recordbytes.proofs.head_at.Tie as tie
 
-queue-to-requires : tie.Need-queue-to-requires
-queue-to-requires c κs = search needs
-
-add-q : tie.Need-add-q
-add-q c = search needs
-
-add-signal-said : tie.Need-add-signal-said
-add-signal-said c = search needs
-
-shared-slice-read-signal-said : tie.Need-shared-slice-read-signal-said
-shared-slice-read-signal-said c = search needs
-
-add-signal-said-2 : tie.Need-add-signal-said-2
-add-signal-said-2 c = search needs
-
-shared-slice-read-signal-said-2 : tie.Need-shared-slice-read-signal-said-2
-shared-slice-read-signal-said-2 c = search needs
-
-add-signal-said-3 : tie.Need-add-signal-said-3
-add-signal-said-3 c = search needs
-
-shared-slice-read-signal-said-3 : tie.Need-shared-slice-read-signal-said-3
-shared-slice-read-signal-said-3 c = search needs
-
-signal-said-requires : tie.Need-signal-said-requires
-signal-said-requires c κs = search needs
-
 returns : tie.Need-returns
 returns c =
     let a = c .before .before .before .before .before .before .args in
@@ -46,13 +19,13 @@ pub head-at-spec : {M : Type 1} → statement M
 head-at-spec =
     tie.close
     (tie.spec
-    queue-to-requires
-    add-q
-    add-signal-said
-    shared-slice-read-signal-said
-    add-signal-said-2
-    shared-slice-read-signal-said-2
-    add-signal-said-3
-    shared-slice-read-signal-said-3
-    signal-said-requires
+    (λ c κs. search needs)
+    (λ c. search needs)
+    (λ c. search needs)
+    (λ c. search needs)
+    (λ c. search needs)
+    (λ c. search needs)
+    (λ c. search needs)
+    (λ c. search needs)
+    (λ c κs. search needs)
     returns)

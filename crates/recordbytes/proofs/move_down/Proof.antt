@@ -48,9 +48,6 @@ loop-again c =
       sym (moved-next (l .row) at (l .i) (omega arith) (omega arith)) ∙ l .inv .2,
     )
 
-same-length : tie.Need-same-length Inv-loop μ-loop
-same-length c = search needs
-
 returns : tie.Need-returns Inv-loop μ-loop
 returns c = sym (moved-end (c .before .loop .row) (c .before .before .args .at + c .before .loop .i) (c .before .loop .i) (c .before .before .args .at + c .before .loop .i + 3) (omega arith)) ∙ c .before .loop .inv .2
 
@@ -69,5 +66,5 @@ move-down-spec =
     add-i
     loop-less
     loop-again
-    same-length
+    (λ c. search needs)
     returns)

@@ -5,29 +5,11 @@ use borrow.Author.Needs.{needs}
 use Rattle.recordbytes.proofs.one_sent.Statement.{statement}
 use Rattle.recordbytes.proofs.one_sent.Tie as tie
 
-enum-known-v : tie.Need-enum-known-v
-enum-known-v c = search needs
-
-enum-known-v-2 : tie.Need-enum-known-v-2
-enum-known-v-2 c = search needs
-
-queue-from-requires : tie.Need-queue-from-requires
-queue-from-requires c κs = search needs
-
-add-q : tie.Need-add-q
-add-q c = search needs
-
-slice-read-if1 : tie.Need-slice-read-if1
-slice-read-if1 c = search needs
-
 returns : tie.Need-returns
 returns c =
     let a = c .before .before .before .before .before .before .before .args in
     let room = c .before .before .before .before .before .before .before .pre in
     one-over (a .row .now) (a .at) room (a .s) (a .x) (c .before .before .before .before .v2 .given .1) (c .before .before .queue-from .ensures .0) (c .if1 .taken)
-
-settle-requires : tie.Need-settle-requires
-settle-requires c κs = search needs
 
 push-requires : tie.Need-push-requires
 push-requires c κs =
@@ -44,9 +26,6 @@ returns-2 c =
     let room = c .before .before .before .before .pre in
     one-refused (a .row .now) (a .at) room (a .s) (a .x) (c .before .v .given .1)
 
-same-length : tie.Need-same-length
-same-length c = search needs
-
 returns-3 : tie.Need-returns-3
 returns-3 c =
     let a = c .before .before .before .before .before .before .before .before .before .before .before .before .before .before .before .args in
@@ -57,14 +36,14 @@ pub one-sent-spec : {M : Type 1} → statement M
 one-sent-spec =
     tie.close
     (tie.spec
-    enum-known-v
-    enum-known-v-2
-    queue-from-requires
-    add-q
-    slice-read-if1
+    (λ c. search needs)
+    (λ c. search needs)
+    (λ c κs. search needs)
+    (λ c. search needs)
+    (λ c. search needs)
     returns
-    settle-requires
+    (λ c κs. search needs)
     push-requires
     returns-2
-    same-length
+    (λ c. search needs)
     returns-3)

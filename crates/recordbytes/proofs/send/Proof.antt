@@ -12,27 +12,6 @@ use borrow.Author.Needs.{needs}
 use Rattle.recordbytes.proofs.send.Statement.{statement}
 use Rattle.recordbytes.proofs.send.Tie as tie
 
-queue-from-requires : tie.Need-queue-from-requires
-queue-from-requires c κs = search needs
-
-add-q : tie.Need-add-q
-add-q c = search needs
-
-slice-read-waiting : tie.Need-slice-read-waiting
-slice-read-waiting c = search needs
-
-end-at-requires : tie.Need-end-at-requires
-end-at-requires c κs = search needs
-
-speak-requires : tie.Need-speak-requires
-speak-requires c κs = search needs
-
-one-sent-requires : tie.Need-one-sent-requires
-one-sent-requires c κs = search needs
-
-same-length : tie.Need-same-length
-same-length c = search needs
-
 returns : tie.Need-returns
 returns c =
     let a = c .before .before .before .before .before .before .before .before .before .before .args in
@@ -43,11 +22,11 @@ pub send-spec : {M : Type 1} → statement M
 send-spec =
     tie.close
     (tie.spec
-    queue-from-requires
-    add-q
-    slice-read-waiting
-    end-at-requires
-    speak-requires
-    one-sent-requires
-    same-length
+    (λ c κs. search needs)
+    (λ c. search needs)
+    (λ c. search needs)
+    (λ c κs. search needs)
+    (λ c κs. search needs)
+    (λ c κs. search needs)
+    (λ c. search needs)
     returns)

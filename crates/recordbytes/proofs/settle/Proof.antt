@@ -6,24 +6,6 @@ use borrow.Author.Needs.{needs}
 use Rattle.recordbytes.proofs.settle.Statement.{statement}
 use Rattle.recordbytes.proofs.settle.Tie as tie
 
-tidy-requires : tie.Need-tidy-requires
-tidy-requires c κs = search needs
-
-state-place-requires : tie.Need-state-place-requires
-state-place-requires c κs = search needs
-
-state-number-requires : tie.Need-state-number-requires
-state-number-requires c κs = search needs
-
-add-row : tie.Need-add-row
-add-row c = search needs
-
-slice-write-row : tie.Need-slice-write-row
-slice-write-row c = search needs
-
-same-length : tie.Need-same-length
-same-length c = search needs
-
 returns : tie.Need-returns
 returns c =
     let a = c .before .before .before .before .before .before .before .args in
@@ -34,10 +16,10 @@ pub settle-spec : {M : Type 1} → statement M
 settle-spec =
     tie.close
     (tie.spec
-    tidy-requires
-    state-place-requires
-    state-number-requires
-    add-row
-    slice-write-row
-    same-length
+    (λ c κs. search needs)
+    (λ c κs. search needs)
+    (λ c κs. search needs)
+    (λ c. search needs)
+    (λ c. search needs)
+    (λ c. search needs)
     returns)

@@ -11,18 +11,6 @@ use borrow.Author.Needs.{needs}
 use Rattle.recordbytes.proofs.teardown.Statement.{statement}
 use Rattle.recordbytes.proofs.teardown.Tie as tie
 
-end-at-requires : tie.Need-end-at-requires
-end-at-requires c κs = search needs
-
-tear-requires : tie.Need-tear-requires
-tear-requires c κs = search needs
-
-one-sent-requires : tie.Need-one-sent-requires
-one-sent-requires c κs = search needs
-
-same-length : tie.Need-same-length
-same-length c = search needs
-
 returns : tie.Need-returns
 returns c =
     let a = c .before .before .before .before .before .before .before .before .args in
@@ -31,4 +19,4 @@ returns c =
 
 pub teardown-spec : {M : Type 1} → statement M
 teardown-spec =
-    tie.close (tie.spec end-at-requires tear-requires one-sent-requires same-length returns)
+    tie.close (tie.spec (λ c κs. search needs) (λ c κs. search needs) (λ c κs. search needs) (λ c. search needs) returns)

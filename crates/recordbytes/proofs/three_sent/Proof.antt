@@ -10,26 +10,11 @@ use borrow.Author.Needs.{needs}
 use Rattle.recordbytes.proofs.three_sent.Statement.{statement}
 use Rattle.recordbytes.proofs.three_sent.Tie as tie
 
-enum-known-v : tie.Need-enum-known-v
-enum-known-v c = search needs
-
-enum-known-v-2 : tie.Need-enum-known-v-2
-enum-known-v-2 c = search needs
-
-add-q : tie.Need-add-q
-add-q c = search needs
-
-slice-read-if1 : tie.Need-slice-read-if1
-slice-read-if1 c = search needs
-
 returns : tie.Need-returns
 returns c =
     let a = c .before .before .before .before .before .before .args in
     let room = c .before .before .before .before .before .before .pre in
     three-over (a .row .now) (a .at) room (a .status) (c .before .before .before .v2 .given .1) (c .if1 .taken)
-
-settle-requires : tie.Need-settle-requires
-settle-requires c κs = search needs
 
 push-requires : tie.Need-push-requires
 push-requires c κs =
@@ -70,9 +55,6 @@ returns-2 c =
     let room = c .before .before .before .before .pre in
     three-refused (a .row .now) (a .at) room (a .status) (c .before .v .given .1)
 
-same-length : tie.Need-same-length
-same-length c = search needs
-
 returns-3 : tie.Need-returns-3
 returns-3 c =
     let a = c .before .before .before .before .before .before .before .before .before .before .before .before .before .before .before .before .before .before .before .before .before .before .args in
@@ -83,15 +65,15 @@ pub three-sent-spec : {M : Type 1} → statement M
 three-sent-spec =
     tie.close
     (tie.spec
-    enum-known-v
-    enum-known-v-2
-    add-q
-    slice-read-if1
+    (λ c. search needs)
+    (λ c. search needs)
+    (λ c. search needs)
+    (λ c. search needs)
     returns
-    settle-requires
+    (λ c κs. search needs)
     push-requires
     push-requires-2
     push-requires-3
     returns-2
-    same-length
+    (λ c. search needs)
     returns-3)

@@ -8,38 +8,11 @@ use borrow.Author.Needs.{needs}
 use Rattle.recordbytes.proofs.tidy.Statement.{statement}
 use Rattle.recordbytes.proofs.tidy.Tie as tie
 
-slice-read-state-kept : tie.Need-slice-read-state-kept
-slice-read-state-kept c = search needs
-
-state-kept-requires : tie.Need-state-kept-requires
-state-kept-requires c κs = search needs
-
-add-state-kept : tie.Need-add-state-kept
-add-state-kept c = search needs
-
-slice-read-state-kept-2 : tie.Need-slice-read-state-kept-2
-slice-read-state-kept-2 c = search needs
-
-state-kept-requires-2 : tie.Need-state-kept-requires-2
-state-kept-requires-2 c κs = search needs
-
-slice-write-row : tie.Need-slice-write-row
-slice-write-row c = search needs
-
-add-row : tie.Need-add-row
-add-row c = search needs
-
 slice-write-row-2 : tie.Need-slice-write-row-2
 slice-write-row-2 c = simp length-set (omega arith)
 
-add-tidy-places : tie.Need-add-tidy-places
-add-tidy-places c = search needs
-
 tidy-places-requires : tie.Need-tidy-places-requires
 tidy-places-requires c κs = simp length-set (omega arith)
-
-add-tidy-places-2 : tie.Need-add-tidy-places-2
-add-tidy-places-2 c = search needs
 
 tidy-places-requires-2 : tie.Need-tidy-places-requires-2
 tidy-places-requires-2 c κs = omega (arith, simp length-set at (c .before .before .before .tidy-places .kept .0))
@@ -57,17 +30,17 @@ pub tidy-spec : {M : Type 1} → statement M
 tidy-spec =
     tie.close
     (tie.spec
-    slice-read-state-kept
-    state-kept-requires
-    add-state-kept
-    slice-read-state-kept-2
-    state-kept-requires-2
-    slice-write-row
-    add-row
+    (λ c. search needs)
+    (λ c κs. search needs)
+    (λ c. search needs)
+    (λ c. search needs)
+    (λ c κs. search needs)
+    (λ c. search needs)
+    (λ c. search needs)
     slice-write-row-2
-    add-tidy-places
+    (λ c. search needs)
     tidy-places-requires
-    add-tidy-places-2
+    (λ c. search needs)
     tidy-places-requires-2
     same-length
     returns)

@@ -17,9 +17,6 @@ Inv-loop row₀ at i₀ row i = (i ≤ 16) × (length row ≡ length row₀) × 
 abbrev μ-loop : tie.MeasureT-loop
 μ-loop row₀ at i₀ row i = 16 - i
 
-some-set-requires : tie.Need-some-set-requires Inv-loop μ-loop
-some-set-requires c κs = search needs
-
 loop-holds : tie.Need-loop-holds Inv-loop μ-loop
 loop-holds c = (search needs, refl, tidied-start (c .before .before .before .before .args .row .now) (c .before .before .before .before .args .at))
 
@@ -48,14 +45,8 @@ loop-again c =
       ap (λ (z : List ℕ). sets z (at + 3 * (l .i + 1)) (slotsBytes (slotsFrom (16 - (l .i + 1)) z (at + 3 * (l .i + 1))))) e ∙ sym (tidied-next (l .row) at (l .i) (omega arith)) ∙ l .inv .2,
     )
 
-same-length : tie.Need-same-length Inv-loop μ-loop
-same-length c = search needs
-
 returns : tie.Need-returns Inv-loop μ-loop
 returns c = sym (tidied-end (c .before .loop .row) _ (c .before .loop .i) (omega arith)) ∙ c .before .loop .inv .2
-
-same-length-2 : tie.Need-same-length-2 Inv-loop μ-loop
-same-length-2 c = search needs
 
 returns-2 : tie.Need-returns-2 Inv-loop μ-loop
 returns-2 c = passed-over (c .before .before .before .before .args .row .now) (c .before .before .before .before .args .at) (sym (c .before .some-set .ensures) ∙ c .if1 .left)
@@ -66,7 +57,7 @@ tidy-places-spec =
     (tie.spec
     Inv-loop
     μ-loop
-    some-set-requires
+    (λ c κs. search needs)
     loop-holds
     mul-tidy-place
     add-tidy-place
@@ -74,7 +65,7 @@ tidy-places-spec =
     add-i
     loop-less
     loop-again
-    same-length
+    (λ c. search needs)
     returns
-    same-length-2
+    (λ c. search needs)
     returns-2)

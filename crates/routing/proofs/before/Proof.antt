@@ -5,15 +5,6 @@ use borrow.Author.Needs.{needs}
 use Rattle.routing.proofs.before.Statement.{statement}
 use Rattle.routing.proofs.before.Tie as tie
 
-place-of-requires : tie.Need-place-of-requires
-place-of-requires c κs = search needs
-
-list-length-requires : tie.Need-list-length-requires
-list-length-requires c κs = search needs
-
-add-result : tie.Need-add-result
-add-result c = search needs
-
 returns : tie.Need-returns
 unfolding before stands
 returns c = rw (lt-ltb _ _ (rw (c .before .before .place-of .ensures, c .before .list-length .ensures) at (c .if1 .taken)), c .before .before .place-of .ensures)
@@ -24,4 +15,4 @@ returns-2 c = rw (le-ltb _ _ (rw (c .before .before .place-of .ensures, c .befor
 
 pub before-spec : {M : Type 1} → statement M
 before-spec =
-    tie.close (tie.spec place-of-requires list-length-requires add-result returns returns-2)
+    tie.close (tie.spec (λ c κs. search needs) (λ c κs. search needs) (λ c. search needs) returns returns-2)

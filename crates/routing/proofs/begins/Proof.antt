@@ -9,30 +9,6 @@ use borrow.Author.Needs.{needs}
 use Rattle.routing.proofs.begins.Statement.{statement}
 use Rattle.routing.proofs.begins.Tie as tie
 
-enum-told : tie.Need-enum-told
-enum-told c = search needs
-
-enum-told-2 : tie.Need-enum-told-2
-enum-told-2 c = search needs
-
-suffix-begins-requires : tie.Need-suffix-begins-requires
-suffix-begins-requires c κs = search needs
-
-enum-told-3 : tie.Need-enum-told-3
-enum-told-3 c = search needs
-
-list-length-requires : tie.Need-list-length-requires
-list-length-requires c κs = search needs
-
-list-length-requires-2 : tie.Need-list-length-requires-2
-list-length-requires-2 c κs = search needs
-
-less-requires : tie.Need-less-requires
-less-requires c κs = search needs
-
-returns : tie.Need-returns
-returns c = search needs
-
 returns-2 : tie.Need-returns-2
 returns-2 c =
     let a = c .before .before .before .args in
@@ -49,13 +25,13 @@ pub begins-spec : {M : Type 1} → statement M
 begins-spec =
     tie.close
     (tie.spec
-    enum-told
-    enum-told-2
-    suffix-begins-requires
-    enum-told-3
-    list-length-requires
-    list-length-requires-2
-    less-requires
-    returns
+    (λ c. search needs)
+    (λ c. search needs)
+    (λ c κs. search needs)
+    (λ c. search needs)
+    (λ c κs. search needs)
+    (λ c κs. search needs)
+    (λ c κs. search needs)
+    (λ c. search needs)
     returns-2
     returns-3)

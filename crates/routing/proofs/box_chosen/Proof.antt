@@ -9,20 +9,11 @@ use borrow.Author.Needs.{needs}
 use Rattle.routing.proofs.box_chosen.Statement.{statement}
 use Rattle.routing.proofs.box_chosen.Tie as tie
 
-interface-of-requires : tie.Need-interface-of-requires
-interface-of-requires c κs = search needs
-
 returns : tie.Need-returns
 unfolding callee4
 returns c p shown =
     let a = c .before .before .before .args in
     c .interface-of .ensures ∙ sym (interface-shown p (a .target) shown) ∙ sym (chosen-none (a .rest .now) _ _ (c .before .if1 .taken))
-
-shared-slice-read-t9 : tie.Need-shared-slice-read-t9
-shared-slice-read-t9 c = search needs
-
-routing-requires : tie.Need-routing-requires
-routing-requires c κs = search needs
 
 returns-2 : tie.Need-returns-2
 unfolding callee4
@@ -33,4 +24,4 @@ returns-2 c p shown =
 pub box-chosen-spec : {M : Type 1} → statement M
 box-chosen-spec =
     tie.close
-    (tie.spec interface-of-requires returns shared-slice-read-t9 routing-requires returns-2)
+    (tie.spec (λ c κs. search needs) returns (λ c. search needs) (λ c κs. search needs) returns-2)

@@ -7,18 +7,6 @@ use borrow.Author.Needs.{needs}
 use Rattle.routing.proofs.deliver.Statement.{statement}
 use Rattle.routing.proofs.deliver.Tie as tie
 
-box-chosen-requires : tie.Need-box-chosen-requires
-box-chosen-requires c κs = search needs
-
-received-requires : tie.Need-received-requires
-received-requires c κs = search needs
-
-less-requires : tie.Need-less-requires
-less-requires c κs = search needs
-
-cast-t12 : tie.Need-cast-t12
-cast-t12 c = search needs
-
 returns : tie.Need-returns
 unfolding delivered answered
 returns c =
@@ -27,4 +15,4 @@ returns c =
 
 pub deliver-spec : {M : Type 1} → statement M
 deliver-spec =
-    tie.close (tie.spec box-chosen-requires received-requires less-requires cast-t12 returns)
+    tie.close (tie.spec (λ c κs. search needs) (λ c κs. search needs) (λ c κs. search needs) (λ c. search needs) returns)

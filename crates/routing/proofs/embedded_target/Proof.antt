@@ -10,12 +10,6 @@ use borrow.Author.Needs.{needs}
 use Rattle.routing.proofs.embedded_target.Statement.{statement}
 use Rattle.routing.proofs.embedded_target.Tie as tie
 
-cast-at-most : tie.Need-cast-at-most
-cast-at-most c = search needs
-
-at-most-requires : tie.Need-at-most-requires
-at-most-requires c κs = search needs
-
 array-share-prefix-symbols : tie.Need-array-share-prefix-symbols
 array-share-prefix-symbols c =
     let long : length (c .before .before .before .args .d .symbols) ≡ 32 = search needs in
@@ -25,15 +19,6 @@ slice-aggregate-embedded-in : tie.Need-slice-aggregate-embedded-in
 slice-aggregate-embedded-in c =
     let long : length (c .before .before .before .before .args .d .symbols) ≡ 32 = search needs in
     simp length-take (omega (arith, c .before .at-most .ensures))
-
-embedded-in-requires : tie.Need-embedded-in-requires
-embedded-in-requires c κs = search needs
-
-enum-told : tie.Need-enum-told
-enum-told c = search needs
-
-enum-known-a : tie.Need-enum-known-a
-enum-known-a c = search needs
 
 returns : tie.Need-returns
 unfolding stringOf
@@ -55,12 +40,12 @@ pub embedded-target-spec : {M : Type 1} → statement M
 embedded-target-spec =
     tie.close
     (tie.spec
-    cast-at-most
-    at-most-requires
+    (λ c. search needs)
+    (λ c κs. search needs)
     array-share-prefix-symbols
     slice-aggregate-embedded-in
-    embedded-in-requires
-    enum-told
-    enum-known-a
+    (λ c κs. search needs)
+    (λ c. search needs)
+    (λ c. search needs)
     returns
     returns-2)

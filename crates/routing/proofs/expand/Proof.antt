@@ -8,18 +8,6 @@ use borrow.Author.Needs.{needs}
 use Rattle.routing.proofs.expand.Statement.{statement}
 use Rattle.routing.proofs.expand.Tie as tie
 
-enum-told : tie.Need-enum-told
-enum-told c = search needs
-
-end-part-requires : tie.Need-end-part-requires
-end-part-requires c κs = search needs
-
-enum-told-2 : tie.Need-enum-told-2
-enum-told-2 c = search needs
-
-end-part-requires-2 : tie.Need-end-part-requires-2
-end-part-requires-2 c κs = search needs
-
 returns : tie.Need-returns
 returns c =
     let a = c .before .before .before .before .before .args in
@@ -33,4 +21,4 @@ returns-2 c =
 pub expand-spec : {M : Type 1} → statement M
 expand-spec =
     tie.close
-    (tie.spec enum-told end-part-requires enum-told-2 end-part-requires-2 returns returns-2)
+    (tie.spec (λ c. search needs) (λ c κs. search needs) (λ c. search needs) (λ c κs. search needs) returns returns-2)

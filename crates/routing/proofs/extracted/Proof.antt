@@ -5,9 +5,6 @@ use borrow.Author.Needs.{needs}
 use Rattle.routing.proofs.extracted.Statement.{statement}
 use Rattle.routing.proofs.extracted.Tie as tie
 
-embedded-target-requires : tie.Need-embedded-target-requires
-embedded-target-requires c κs = search needs
-
 returns : tie.Need-returns
 unfolding target1
 returns c = rw (eq-eqb _ 0 (c .before .if1 .taken)) (c .embedded-target .ensures)
@@ -17,4 +14,4 @@ unfolding target1
 returns-2 c = rw (ne-eqb _ 0 (c .if1 .left))
 
 pub extracted-spec : {M : Type 1} → statement M
-extracted-spec = tie.close (tie.spec embedded-target-requires returns returns-2)
+extracted-spec = tie.close (tie.spec (λ c κs. search needs) returns returns-2)

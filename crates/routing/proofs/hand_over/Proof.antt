@@ -11,33 +11,12 @@ use borrow.Author.Needs.{needs}
 use Rattle.routing.proofs.hand_over.Statement.{statement}
 use Rattle.routing.proofs.hand_over.Tie as tie
 
-zone-in-requires : tie.Need-zone-in-requires
-zone-in-requires c κs = search needs
-
-begins-requires : tie.Need-begins-requires
-begins-requires c κs = search needs
-
-exhausted-requires : tie.Need-exhausted-requires
-exhausted-requires c κs = search needs
-
-list-length-requires : tie.Need-list-length-requires
-list-length-requires c κs = search needs
-
-expand-requires : tie.Need-expand-requires
-expand-requires c κs = search needs
-
 deliver-requires : tie.Need-deliver-requires
 deliver-requires c κs =
     let a = c .before .before .before .before .before .before .before .before .before .args in
     let zone = zoneIn (a .out .region) (a .source-zone) (a .target-zone) in
     let rest : c .expand .result .now ≡ listOf (a .target-zone) = rw (c .before .list-length .ensures, c .before .before .before .before .before .before .before .before .before .pre .1) at (c .expand .ensures) in
     rw rest (c .before .before .before .before .before .before .before .before .before .pre .3)
-
-list-length-requires-2 : tie.Need-list-length-requires-2
-list-length-requires-2 c κs = search needs
-
-expand-requires-2 : tie.Need-expand-requires-2
-expand-requires-2 c κs = search needs
 
 deliver-requires-2 : tie.Need-deliver-requires-2
 deliver-requires-2 c κs =
@@ -79,14 +58,14 @@ pub hand-over-spec : {M : Type 1} → statement M
 hand-over-spec =
     tie.close
     (tie.spec
-    zone-in-requires
-    begins-requires
-    exhausted-requires
-    list-length-requires
-    expand-requires
+    (λ c κs. search needs)
+    (λ c κs. search needs)
+    (λ c κs. search needs)
+    (λ c κs. search needs)
+    (λ c κs. search needs)
     deliver-requires
-    list-length-requires-2
-    expand-requires-2
+    (λ c κs. search needs)
+    (λ c κs. search needs)
     deliver-requires-2
     returns
     returns-2)

@@ -5,22 +5,10 @@ use borrow.Author.Needs.{needs}
 use Rattle.routing.proofs.interface_of.Statement.{statement}
 use Rattle.routing.proofs.interface_of.Tie as tie
 
-look-up-requires : tie.Need-look-up-requires
-look-up-requires c κs = search needs
-
-enum-known-kind : tie.Need-enum-known-kind
-enum-known-kind c = search needs
-
-enum-told : tie.Need-enum-told
-enum-told c = search needs
-
 returns : tie.Need-returns
 returns c =
     let a = c .before .before .before .args in
     sym (none-listed (a .holder) (a .address) (sym (c .before .before .look-up .ensures) ∙ c .enum-told .given .1))
-
-box-of-requires : tie.Need-box-of-requires
-box-of-requires c κs = search needs
 
 returns-2 : tie.Need-returns-2
 returns-2 c =
@@ -31,9 +19,9 @@ pub interface-of-spec : {M : Type 1} → statement M
 interface-of-spec =
     tie.close
     (tie.spec
-    look-up-requires
-    enum-known-kind
-    enum-told
+    (λ c κs. search needs)
+    (λ c. search needs)
+    (λ c. search needs)
     returns
-    box-of-requires
+    (λ c κs. search needs)
     returns-2)

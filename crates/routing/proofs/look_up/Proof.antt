@@ -4,9 +4,6 @@ use borrow.Author.Tests.{eq-eqb, ne-eqb}
 use Rattle.routing.proofs.look_up.Statement.{statement}
 use Rattle.routing.proofs.look_up.Tie as tie
 
-array-read-t7 : tie.Need-array-read-t7
-array-read-t7 c = search needs
-
 returns : tie.Need-returns
 returns c = rw (eq-eqb _ 0 (c .if1 .taken))
 
@@ -14,4 +11,4 @@ returns-2 : tie.Need-returns-2
 returns-2 c = rw (ne-eqb _ 0 (c .if1 .left))
 
 pub look-up-spec : {M : Type 1} → statement M
-look-up-spec = tie.close (tie.spec array-read-t7 returns returns-2)
+look-up-spec = tie.close (tie.spec (λ c. search needs) returns returns-2)

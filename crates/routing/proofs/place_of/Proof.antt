@@ -19,9 +19,6 @@ Inv-loop t types end i₀ i =
 abbrev μ-loop : tie.MeasureT-loop
 μ-loop t types end i₀ i = end - i
 
-list-length-requires : tie.Need-list-length-requires Inv-loop μ-loop
-list-length-requires c κs = search needs
-
 loop-holds : tie.Need-loop-holds Inv-loop μ-loop
 loop-holds c = (omega arith, below-none _)
 
@@ -61,7 +58,7 @@ place-of-spec =
     (tie.spec
     Inv-loop
     μ-loop
-    list-length-requires
+    (λ c κs. search needs)
     loop-holds
     array-read-if1
     returns

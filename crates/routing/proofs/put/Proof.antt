@@ -17,9 +17,6 @@ Inv-loop list₀ types end i₀ list i =
 abbrev μ-loop : tie.MeasureT-loop
 μ-loop list₀ types end i₀ list i = end - i
 
-list-length-requires : tie.Need-list-length-requires Inv-loop μ-loop
-list-length-requires c κs = search needs
-
 loop-holds : tie.Need-loop-holds Inv-loop μ-loop
 loop-holds c = (omega arith, refl, refl)
 
@@ -69,7 +66,7 @@ put-spec =
     (tie.spec
     Inv-loop
     μ-loop
-    list-length-requires
+    (λ c κs. search needs)
     loop-holds
     array-read-list
     slice-write-list

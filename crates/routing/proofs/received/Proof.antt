@@ -10,15 +10,6 @@ use borrow.Author.Needs.{needs}
 use Rattle.routing.proofs.received.Statement.{statement}
 use Rattle.routing.proofs.received.Tie as tie
 
-kept-string-requires : tie.Need-kept-string-requires
-kept-string-requires c κs = search needs
-
-tail-requires : tie.Need-tail-requires
-tail-requires c κs = search needs
-
-listed-requires : tie.Need-listed-requires
-listed-requires c κs = search needs
-
 returns : tie.Need-returns
 unfolding received4
 returns c =
@@ -28,4 +19,4 @@ returns c =
     rw (c .before .before .kept-string .ensures, c .listed .ensures, c .before .tail .ensures, all-32 (tail rest) short)
 
 pub received-spec : {M : Type 1} → statement M
-received-spec = tie.close (tie.spec kept-string-requires tail-requires listed-requires returns)
+received-spec = tie.close (tie.spec (λ c κs. search needs) (λ c κs. search needs) (λ c κs. search needs) returns)

@@ -4,12 +4,9 @@ use borrow.Author.Needs.{needs}
 use Rattle.routing.proofs.refused.Statement.{statement}
 use Rattle.routing.proofs.refused.Tie as tie
 
-blank-setup-requires : tie.Need-blank-setup-requires
-blank-setup-requires c κs = search needs
-
 returns : tie.Need-returns
 unfolding refusedWith
 returns c = rw (c .blank-setup .ensures)
 
 pub refused-spec : {M : Type 1} → statement M
-refused-spec = tie.close (tie.spec blank-setup-requires returns)
+refused-spec = tie.close (tie.spec (λ c κs. search needs) returns)

@@ -18,27 +18,6 @@ use borrow.Author.Needs.{needs}
 use Rattle.routing.proofs.route_seen.Statement.{statement}
 use Rattle.routing.proofs.route_seen.Tie as tie
 
-extracted-requires : tie.Need-extracted-requires
-extracted-requires c κs = search needs
-
-zone-of-requires : tie.Need-zone-of-requires
-zone-of-requires c κs = search needs
-
-zone-of-requires-2 : tie.Need-zone-of-requires-2
-zone-of-requires-2 c κs = search needs
-
-settled-requires : tie.Need-settled-requires
-settled-requires c κs = search needs
-
-enum-known-r : tie.Need-enum-known-r
-enum-known-r c = search needs
-
-refused-requires : tie.Need-refused-requires
-refused-requires c κs = search needs
-
-enum-told : tie.Need-enum-told
-enum-told c = search needs
-
 put-requires : tie.Need-put-requires
 put-requires c κs =
     let z = c .before .before .before .before in
@@ -100,12 +79,6 @@ returns c = (
   (λ refused. refl, λ refused. refl),
 )
 
-same-length : tie.Need-same-length
-same-length c = search needs
-
-same-length-2 : tie.Need-same-length-2
-same-length-2 c = search needs
-
 returns-2 : tie.Need-returns-2
 returns-2 c = (
   λ p shows.
@@ -138,17 +111,17 @@ pub route-seen-spec : {M : Type 1} → statement M
 route-seen-spec =
     tie.close
     (tie.spec
-    extracted-requires
-    zone-of-requires
-    zone-of-requires-2
-    settled-requires
-    enum-known-r
-    refused-requires
-    enum-told
+    (λ c κs. search needs)
+    (λ c κs. search needs)
+    (λ c κs. search needs)
+    (λ c κs. search needs)
+    (λ c. search needs)
+    (λ c κs. search needs)
+    (λ c. search needs)
     put-requires
     put-requires-2
     hand-over-requires
     returns
-    same-length
-    same-length-2
+    (λ c. search needs)
+    (λ c. search needs)
     returns-2)

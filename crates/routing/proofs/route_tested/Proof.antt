@@ -4,21 +4,6 @@ use borrow.Author.Needs.{needs}
 use Rattle.routing.proofs.route_tested.Statement.{statement}
 use Rattle.routing.proofs.route_tested.Tie as tie
 
-extracted-requires : tie.Need-extracted-requires
-extracted-requires c κs = search needs
-
-look-requires : tie.Need-look-requires
-look-requires c κs = search needs
-
-route-seen-requires : tie.Need-route-seen-requires
-route-seen-requires c κs = search needs
-
-same-length : tie.Need-same-length
-same-length c = search needs
-
-same-length-2 : tie.Need-same-length-2
-same-length-2 c = search needs
-
 returns : tie.Need-returns
 returns c =
     let routed = c .before .before .before .before in
@@ -30,9 +15,9 @@ pub route-tested-spec : {M : Type 1} → statement M
 route-tested-spec =
     tie.close
     (tie.spec
-    extracted-requires
-    look-requires
-    route-seen-requires
-    same-length
-    same-length-2
+    (λ c κs. search needs)
+    (λ c κs. search needs)
+    (λ c κs. search needs)
+    (λ c. search needs)
+    (λ c. search needs)
     returns)

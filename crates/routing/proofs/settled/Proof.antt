@@ -7,17 +7,11 @@ use borrow.Author.Needs.{needs}
 use Rattle.routing.proofs.settled.Statement.{statement}
 use Rattle.routing.proofs.settled.Tie as tie
 
-zone-in-requires : tie.Need-zone-in-requires
-zone-in-requires c κs = search needs
-
 returns : tie.Need-returns
 unfolding settledIn
 returns c =
     let kept : c .before .before .args .kept ≡ false = failed refl (c .if1 .taken) in
     rw kept
-
-well-formed-in-requires : tie.Need-well-formed-in-requires
-well-formed-in-requires c κs = search needs
 
 returns-2 : tie.Need-returns-2
 unfolding settledIn
@@ -25,9 +19,6 @@ returns-2 c =
     let same = rw (c .before .before .before .zone-in .ensures) at (c .before .well-formed-in .ensures) in
     let kept : c .before .before .before .before .args .kept ≡ true = passed refl (c .before .before .if1 .left) in
     rw (kept, failed same (c .if2 .taken))
-
-roomy-requires : tie.Need-roomy-requires
-roomy-requires c κs = search needs
 
 returns-3 : tie.Need-returns-3
 unfolding settledIn
@@ -44,4 +35,4 @@ returns-4 c =
     rw (kept, passed same (c .before .before .if2 .left), passed (c .before .roomy .ensures) (c .if3 .left))
 
 pub settled-spec : {M : Type 1} → statement M
-settled-spec = tie.close (tie.spec zone-in-requires returns well-formed-in-requires returns-2 roomy-requires returns-3 returns-4)
+settled-spec = tie.close (tie.spec (λ c κs. search needs) returns (λ c κs. search needs) returns-2 (λ c κs. search needs) returns-3 returns-4)

@@ -7,18 +7,6 @@ use borrow.Author.Needs.{needs}
 use Rattle.routing.proofs.suffix_begins.Statement.{statement}
 use Rattle.routing.proofs.suffix_begins.Tie as tie
 
-enum-told : tie.Need-enum-told
-enum-told c = search needs
-
-enum-known-placing : tie.Need-enum-known-placing
-enum-known-placing c = search needs
-
-before-requires : tie.Need-before-requires
-before-requires c κs = search needs
-
-returns : tie.Need-returns
-returns c = search needs
-
 returns-2 : tie.Need-returns-2
 returns-2 c =
     let a = c .before .before .before .before .args in
@@ -26,4 +14,4 @@ returns-2 c =
 
 pub suffix-begins-spec : {M : Type 1} → statement M
 suffix-begins-spec =
-    tie.close (tie.spec enum-told enum-known-placing before-requires returns returns-2)
+    tie.close (tie.spec (λ c. search needs) (λ c. search needs) (λ c κs. search needs) (λ c. search needs) returns-2)

@@ -41,9 +41,6 @@ loop-again c =
       sym (blank-next row at i (c .loop-test .taken)) ∙ c .before .loop .inv .2,
     )
 
-same-length : tie.Need-same-length Inv-loop μ-loop
-same-length c = search needs
-
 returns : tie.Need-returns Inv-loop μ-loop
 returns c = sym (put-done (c .before .loop .row) (replicate 102 0) (c .before .before .args .at + c .before .loop .i) (c .before .loop .i) (c .loop-test .left)) ∙ c .before .loop .inv .2
 
@@ -59,5 +56,5 @@ blank-spec =
     add-i
     loop-less
     loop-again
-    same-length
+    (λ c. search needs)
     returns)

@@ -16,9 +16,6 @@ Inv-loop row₀ end i₀ row i = (i ≤ recordsIn row₀ * 102) × (length row �
 abbrev μ-loop : tie.MeasureT-loop
 μ-loop row₀ end i₀ row i = recordsIn row₀ * 102 - i
 
-mul-end : tie.Need-mul-end Inv-loop μ-loop
-mul-end c = search needs
-
 loop-holds : tie.Need-loop-holds Inv-loop μ-loop
 loop-holds c = (search needs, refl, refl)
 
@@ -34,9 +31,6 @@ loop-less c = omega arith
 loop-again : tie.Need-loop-again Inv-loop μ-loop
 loop-again c = (omega arith, length-set (c .before .loop .row) (c .before .loop .i) 0 ∙ c .before .loop .inv .1, rw (c .before .loop .inv .2) (zeros-next (c .before .before .args .row .now) (c .before .loop .i) (omega arith)))
 
-same-length : tie.Need-same-length Inv-loop μ-loop
-same-length c = search needs
-
 returns : tie.Need-returns Inv-loop μ-loop
 returns c =
     let end : c .before .loop .i ≡ recordsIn (c .before .before .args .row .now) * 102 = omega arith in
@@ -49,11 +43,11 @@ clear-spec =
     (tie.spec
     Inv-loop
     μ-loop
-    mul-end
+    (λ c. search needs)
     loop-holds
     slice-write-row
     add-i
     loop-less
     loop-again
-    same-length
+    (λ c. search needs)
     returns)

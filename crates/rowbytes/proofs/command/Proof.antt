@@ -16,36 +16,15 @@ returns-2 c =
     let a = c .before .before .before .args in
     past-row (a .row .now) (a .r) (a .use-number) (a .k) (c .before .if1 .left) (c .if2 .taken)
 
-mul-at : tie.Need-mul-at
-mul-at c = search needs
-
-free-in-requires : tie.Need-free-in-requires
-free-in-requires c κs = search needs
-
-same-length : tie.Need-same-length
-same-length c = search needs
-
 returns-3 : tie.Need-returns-3
 returns-3 c =
     let a = c .before .before .before .before .before .before .args in
     free-record (a .row .now) (a .r) (a .use-number) (a .k) (c .before .before .before .before .if1 .left) (c .before .before .before .if2 .left) (sym (c .before .free-in .ensures) ∙ c .if3 .taken)
 
-use-at-requires : tie.Need-use-at-requires
-use-at-requires c κs = search needs
-
-same-length-2 : tie.Need-same-length-2
-same-length-2 c = search needs
-
 returns-4 : tie.Need-returns-4
 returns-4 c =
     let a = c .before .before .before .before .before .before .before .before .before .args in
     other-use (a .row .now) (a .r) (a .use-number) (a .k) (c .before .before .before .before .before .before .before .if1 .left) (c .before .before .before .before .before .before .if2 .left) (sym (c .before .before .before .before .free-in .ensures) ∙ c .before .before .before .if3 .left) (c .before .use-at .ensures) (ne-eqb _ _ (c .if4 .taken))
-
-command-at-requires : tie.Need-command-at-requires
-command-at-requires c κs = search needs
-
-same-length-3 : tie.Need-same-length-3
-same-length-3 c = search needs
 
 returns-5 : tie.Need-returns-5
 returns-5 c =
@@ -58,13 +37,13 @@ command-spec =
     (tie.spec
     returns
     returns-2
-    mul-at
-    free-in-requires
-    same-length
+    (λ c. search needs)
+    (λ c κs. search needs)
+    (λ c. search needs)
     returns-3
-    use-at-requires
-    same-length-2
+    (λ c κs. search needs)
+    (λ c. search needs)
     returns-4
-    command-at-requires
-    same-length-3
+    (λ c κs. search needs)
+    (λ c. search needs)
     returns-5)

@@ -5,20 +5,11 @@ use Rattle.rowbytes.proofs.Rows.{free-states}
 use Rattle.rowbytes.proofs.free_in.Statement.{statement}
 use Rattle.rowbytes.proofs.free_in.Tie as tie
 
-shared-slice-read-if1 : tie.Need-shared-slice-read-if1
-shared-slice-read-if1 c = search needs
-
 returns : tie.Need-returns
 returns c = rw (free-states _ _ (c .before .before .pre), ne-eqb _ 0 (c .if1 .taken))
-
-add-result : tie.Need-add-result
-add-result c = search needs
-
-shared-slice-read-result : tie.Need-shared-slice-read-result
-shared-slice-read-result c = search needs
 
 returns-2 : tie.Need-returns-2
 returns-2 c = rw (free-states _ _ (c .before .before .before .pre), eq-eqb _ 0 (c .before .if1 .left))
 
 pub free-in-spec : {M : Type 1} → statement M
-free-in-spec = tie.close (tie.spec shared-slice-read-if1 returns add-result shared-slice-read-result returns-2)
+free-in-spec = tie.close (tie.spec (λ c. search needs) returns (λ c. search needs) (λ c. search needs) returns-2)

@@ -19,20 +19,8 @@ abbrev μ-loop : tie.MeasureT-loop
 loop-holds : tie.Need-loop-holds Inv-loop μ-loop
 loop-holds c = (search needs, free-start (c .before .args .row .now))
 
-mul-free-in : tie.Need-mul-free-in Inv-loop μ-loop
-mul-free-in c = search needs
-
-free-in-requires : tie.Need-free-in-requires Inv-loop μ-loop
-free-in-requires c κs = search needs
-
 returns : tie.Need-returns Inv-loop μ-loop
 returns c = sym (free-found (c .before .before .before .before .before .args .row .now) (c .before .before .before .loop .i) (search needs) (sym (c .before .free-in .ensures) ∙ c .if1 .taken)) ∙ c .before .before .before .loop .inv .1
-
-add-i : tie.Need-add-i Inv-loop μ-loop
-add-i c = search needs
-
-loop-less : tie.Need-loop-less Inv-loop μ-loop
-loop-less c = search needs
 
 loop-again : tie.Need-loop-again Inv-loop μ-loop
 loop-again c = (search needs, sym (free-next (c .before .before .before .before .before .args .row .now) (c .before .before .before .loop .i) (search needs) (sym (c .before .free-in .ensures) ∙ c .if1 .left)) ∙ c .before .before .before .loop .inv .1)
@@ -47,10 +35,10 @@ lowest-free-spec =
     Inv-loop
     μ-loop
     loop-holds
-    mul-free-in
-    free-in-requires
+    (λ c. search needs)
+    (λ c κs. search needs)
     returns
-    add-i
-    loop-less
+    (λ c. search needs)
+    (λ c. search needs)
     loop-again
     returns-2)

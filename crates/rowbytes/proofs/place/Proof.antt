@@ -10,39 +10,6 @@ use borrow.Author.Needs.{needs}
 use Rattle.rowbytes.proofs.place.Statement.{statement}
 use Rattle.rowbytes.proofs.place.Tie as tie
 
-lowest-free-requires : tie.Need-lowest-free-requires
-lowest-free-requires c κs = search needs
-
-later-for-requires : tie.Need-later-for-requires
-later-for-requires c κs = search needs
-
-route-seen-requires : tie.Need-route-seen-requires
-route-seen-requires c κs = search needs
-
-enum-told : tie.Need-enum-told
-enum-told c = search needs
-
-use-at-requires : tie.Need-use-at-requires
-use-at-requires c κs = search needs
-
-wrapping-add-u16-requires : tie.Need-wrapping-add-u16-requires
-wrapping-add-u16-requires c κs = search needs
-
-put-placed-requires : tie.Need-put-placed-requires
-put-placed-requires c κs = search needs
-
-enum-told-2 : tie.Need-enum-told-2
-enum-told-2 c = search needs
-
-same-length : tie.Need-same-length
-same-length c = search needs
-
-same-length-2 : tie.Need-same-length-2
-same-length-2 c = search needs
-
-same-length-3 : tie.Need-same-length-3
-same-length-3 c = search needs
-
 returns : tie.Need-returns
 returns c =
     let told = c .before .before .before .before .before .before .before .enum-told .given .1 in (
@@ -64,15 +31,6 @@ returns c =
           ),
       (λ refused. absurd (clash (ap isRouted told) refused), λ refused. absurd (clash (ap isRouted told) refused), λ refused. absurd (clash (ap isRouted told) refused)),
     )
-
-same-length-4 : tie.Need-same-length-4
-same-length-4 c = search needs
-
-same-length-5 : tie.Need-same-length-5
-same-length-5 c = search needs
-
-same-length-6 : tie.Need-same-length-6
-same-length-6 c = search needs
 
 returns-2 : tie.Need-returns-2
 returns-2 c = (
@@ -98,19 +56,19 @@ pub place-spec : {M : Type 1} → statement M
 place-spec =
     tie.close
     (tie.spec
-    lowest-free-requires
-    later-for-requires
-    route-seen-requires
-    enum-told
-    use-at-requires
-    wrapping-add-u16-requires
-    put-placed-requires
-    enum-told-2
-    same-length
-    same-length-2
-    same-length-3
+    (λ c κs. search needs)
+    (λ c κs. search needs)
+    (λ c κs. search needs)
+    (λ c. search needs)
+    (λ c κs. search needs)
+    (λ c κs. search needs)
+    (λ c κs. search needs)
+    (λ c. search needs)
+    (λ c. search needs)
+    (λ c. search needs)
+    (λ c. search needs)
     returns
-    same-length-4
-    same-length-5
-    same-length-6
+    (λ c. search needs)
+    (λ c. search needs)
+    (λ c. search needs)
     returns-2)

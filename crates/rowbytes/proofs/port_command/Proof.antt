@@ -4,13 +4,10 @@ use borrow.Author.Needs.{needs}
 use Rattle.rowbytes.proofs.port_command.Statement.{statement}
 use Rattle.rowbytes.proofs.port_command.Tie as tie
 
-command-at-requires : tie.Need-command-at-requires
-command-at-requires c κs = search needs
-
 returns : tie.Need-returns
 returns c =
     let a = c .before .before .args in
     port-stepped (a .port .now) (a .k) (search needs) (c .command-at .ensures .0) (c .command-at .ensures .1) (c .command-at .ensures .2)
 
 pub port-command-spec : {M : Type 1} → statement M
-port-command-spec = tie.close (tie.spec command-at-requires returns)
+port-command-spec = tie.close (tie.spec (λ c κs. search needs) returns)

@@ -8,27 +8,6 @@ use borrow.Author.Needs.{needs}
 use Rattle.rowbytes.proofs.port_place.Statement.{statement}
 use Rattle.rowbytes.proofs.port_place.Tie as tie
 
-port-in-requires : tie.Need-port-in-requires
-port-in-requires c κs = search needs
-
-port-later-requires : tie.Need-port-later-requires
-port-later-requires c κs = search needs
-
-route-seen-requires : tie.Need-route-seen-requires
-route-seen-requires c κs = search needs
-
-port-keep-requires : tie.Need-port-keep-requires
-port-keep-requires c κs = search needs
-
-answer-for-requires : tie.Need-answer-for-requires
-answer-for-requires c κs = search needs
-
-same-length : tie.Need-same-length
-same-length c = search needs
-
-same-length-2 : tie.Need-same-length-2
-same-length-2 c = search needs
-
 returns : tie.Need-returns
 returns c = (
   λ p shows.
@@ -51,11 +30,11 @@ pub port-place-spec : {M : Type 1} → statement M
 port-place-spec =
     tie.close
     (tie.spec
-    port-in-requires
-    port-later-requires
-    route-seen-requires
-    port-keep-requires
-    answer-for-requires
-    same-length
-    same-length-2
+    (λ c κs. search needs)
+    (λ c κs. search needs)
+    (λ c κs. search needs)
+    (λ c κs. search needs)
+    (λ c κs. search needs)
+    (λ c. search needs)
+    (λ c. search needs)
     returns)

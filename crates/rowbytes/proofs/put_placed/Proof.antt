@@ -10,41 +10,14 @@ use Rattle.rowbytes.proofs.Rows.{put-past, placed-stored, placed-in}
 use Rattle.rowbytes.proofs.put_placed.Statement.{statement}
 use Rattle.rowbytes.proofs.put_placed.Tie as tie
 
-mul-at : tie.Need-mul-at
-mul-at c = search needs
-
-blank-requires : tie.Need-blank-requires
-blank-requires c κs = search needs
-
-slice-write-row : tie.Need-slice-write-row
-slice-write-row c = search needs
-
-add-row : tie.Need-add-row
-add-row c = search needs
-
 slice-write-row-2 : tie.Need-slice-write-row-2
 slice-write-row-2 c = simp length-set (omega arith)
-
-cast-row : tie.Need-cast-row
-cast-row c = search needs
-
-add-row-2 : tie.Need-add-row-2
-add-row-2 c = search needs
 
 slice-write-row-3 : tie.Need-slice-write-row-3
 slice-write-row-3 c = simp length-set (omega arith)
 
-cast-row-2 : tie.Need-cast-row-2
-cast-row-2 c = search needs
-
-add-row-3 : tie.Need-add-row-3
-add-row-3 c = search needs
-
 slice-write-row-4 : tie.Need-slice-write-row-4
 slice-write-row-4 c = simp length-set (omega arith)
-
-same-length : tie.Need-same-length
-same-length c = search needs
 
 returns : tie.Need-returns
 returns c =
@@ -61,17 +34,17 @@ pub put-placed-spec : {M : Type 1} → statement M
 put-placed-spec =
     tie.close
     (tie.spec
-    mul-at
-    blank-requires
-    slice-write-row
-    add-row
+    (λ c. search needs)
+    (λ c κs. search needs)
+    (λ c. search needs)
+    (λ c. search needs)
     slice-write-row-2
-    cast-row
-    add-row-2
+    (λ c. search needs)
+    (λ c. search needs)
     slice-write-row-3
-    cast-row-2
-    add-row-3
+    (λ c. search needs)
+    (λ c. search needs)
     slice-write-row-4
-    same-length
+    (λ c. search needs)
     returns
     returns-2)

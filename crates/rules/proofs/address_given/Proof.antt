@@ -4,12 +4,9 @@ use borrow.Author.Needs.{needs}
 use Rattle.rules.proofs.address_given.Statement.{statement}
 use Rattle.rules.proofs.address_given.Tie as tie
 
-given-requires : tie.Need-given-requires
-given-requires c κs = search needs
-
 returns : tie.Need-returns
 unfolding addressGiven
 returns c = c .given .ensures
 
 pub address-given-spec : {M : Type 1} → statement M
-address-given-spec = tie.close (tie.spec given-requires returns)
+address-given-spec = tie.close (tie.spec (λ c κs. search needs) returns)

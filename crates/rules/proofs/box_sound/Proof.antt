@@ -8,30 +8,9 @@ use borrow.Author.Needs.{needs}
 use Rattle.rules.proofs.box_sound.Statement.{statement}
 use Rattle.rules.proofs.box_sound.Tie as tie
 
-cast-if1 : tie.Need-cast-if1
-cast-if1 c = search needs
-
-mul-box-number : tie.Need-mul-box-number
-mul-box-number c = search needs
-
-array-read-box-number : tie.Need-array-read-box-number
-array-read-box-number c = search needs
-
-box-number-requires : tie.Need-box-number-requires
-box-number-requires c κs = search needs
-
 returns : tie.Need-returns
 unfolding boxSound
 returns c = rw (lt-ltb _ _ (c .before .before .if1 .taken), failed (c .before .box-number .ensures) (c .if2 .taken))
-
-differs-at-requires : tie.Need-differs-at-requires
-differs-at-requires c κs = search needs
-
-mul-result : tie.Need-mul-result
-mul-result c = search needs
-
-array-read-result : tie.Need-array-read-result
-array-read-result c = search needs
 
 returns-2 : tie.Need-returns-2
 unfolding boxSound
@@ -50,13 +29,13 @@ pub box-sound-spec : {M : Type 1} → statement M
 box-sound-spec =
     tie.close
     (tie.spec
-    cast-if1
-    mul-box-number
-    array-read-box-number
-    box-number-requires
+    (λ c. search needs)
+    (λ c. search needs)
+    (λ c. search needs)
+    (λ c κs. search needs)
     returns
-    differs-at-requires
-    mul-result
-    array-read-result
+    (λ c κs. search needs)
+    (λ c. search needs)
+    (λ c. search needs)
     returns-2
     returns-3)

@@ -21,18 +21,9 @@ abbrev μ-loop : tie.MeasureT-loop
 loop-holds : tie.Need-loop-holds Inv-loop μ-loop
 loop-holds c = (search needs, every-none _)
 
-box-sound-requires : tie.Need-box-sound-requires Inv-loop μ-loop
-box-sound-requires c κs = search needs
-
 returns : tie.Need-returns Inv-loop μ-loop
 returns c =
     sym (sym (boxes-places _) ∙ every-no 4 _ _ (c .before .before .loop-test .taken) (sym (c .before .box-sound .ensures) ∙ not-true _ (c .if1 .taken)))
-
-add-x : tie.Need-add-x Inv-loop μ-loop
-add-x c = search needs
-
-loop-less : tie.Need-loop-less Inv-loop μ-loop
-loop-less c = search needs
 
 loop-again : tie.Need-loop-again Inv-loop μ-loop
 loop-again c = (search needs, every-more _ _ (c .before .before .before .loop .inv .1) (sym (c .before .box-sound .ensures) ∙ not-false _ (c .if1 .left)))
@@ -49,9 +40,9 @@ boxes-sound-spec =
     Inv-loop
     μ-loop
     loop-holds
-    box-sound-requires
+    (λ c κs. search needs)
     returns
-    add-x
-    loop-less
+    (λ c. search needs)
+    (λ c. search needs)
     loop-again
     returns-2)

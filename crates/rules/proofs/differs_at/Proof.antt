@@ -20,18 +20,9 @@ abbrev μ-loop : tie.MeasureT-loop
 loop-holds : tie.Need-loop-holds Inv-loop μ-loop
 loop-holds c = (search needs, every-none _)
 
-differs-from-requires : tie.Need-differs-from-requires Inv-loop μ-loop
-differs-from-requires c κs = search needs
-
 returns : tie.Need-returns Inv-loop μ-loop
 unfolding differsAt
 returns c = sym (every-no _ _ _ (c .before .before .loop-test .taken) (sym (c .before .differs-from .ensures) ∙ not-true _ (c .if1 .taken)))
-
-add-y : tie.Need-add-y Inv-loop μ-loop
-add-y c = search needs
-
-loop-less : tie.Need-loop-less Inv-loop μ-loop
-loop-less c = search needs
 
 loop-again : tie.Need-loop-again Inv-loop μ-loop
 loop-again c = (search needs, every-more _ _ (c .before .before .before .loop .inv .1) (sym (c .before .differs-from .ensures) ∙ not-false _ (c .if1 .left)))
@@ -49,9 +40,9 @@ differs-at-spec =
     Inv-loop
     μ-loop
     loop-holds
-    differs-from-requires
+    (λ c κs. search needs)
     returns
-    add-y
-    loop-less
+    (λ c. search needs)
+    (λ c. search needs)
     loop-again
     returns-2)

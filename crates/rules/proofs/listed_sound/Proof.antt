@@ -5,15 +5,9 @@ use borrow.Author.Needs.{needs}
 use Rattle.rules.proofs.listed_sound.Statement.{statement}
 use Rattle.rules.proofs.listed_sound.Tie as tie
 
-kind-known-requires : tie.Need-kind-known-requires
-kind-known-requires c κs = search needs
-
 returns : tie.Need-returns
 unfolding listedSound
 returns c = rw (failed (c .before .kind-known .ensures) (c .if1 .taken))
-
-address-given-requires : tie.Need-address-given-requires
-address-given-requires c κs = search needs
 
 returns-2 : tie.Need-returns-2
 unfolding listedSound
@@ -23,9 +17,6 @@ returns-2 c =
       failed (c .before .address-given .ensures) (c .if2 .taken),
     )
 
-count-fits-requires : tie.Need-count-fits-requires
-count-fits-requires c κs = search needs
-
 returns-3 : tie.Need-returns-3
 unfolding listedSound
 returns-3 c =
@@ -34,9 +25,6 @@ returns-3 c =
       passed (c .before .before .before .address-given .ensures) (c .before .before .if2 .left),
       failed (c .before .count-fits .ensures) (c .if3 .taken),
     )
-
-sets-in-choices-requires : tie.Need-sets-in-choices-requires
-sets-in-choices-requires c κs = search needs
 
 returns-4 : tie.Need-returns-4
 unfolding listedSound
@@ -48,9 +36,6 @@ returns-4 c =
       failed (c .before .sets-in-choices .ensures) (c .if4 .taken),
     )
 
-reversible-twice-requires : tie.Need-reversible-twice-requires
-reversible-twice-requires c κs = search needs
-
 returns-5 : tie.Need-returns-5
 unfolding listedSound
 returns-5 c =
@@ -61,9 +46,6 @@ returns-5 c =
       passed (c .before .before .before .sets-in-choices .ensures) (c .before .before .if4 .left),
       failed (c .before .reversible-twice .ensures) (c .if5 .taken),
     )
-
-numbers-listed-requires : tie.Need-numbers-listed-requires
-numbers-listed-requires c κs = search needs
 
 returns-6 : tie.Need-returns-6
 unfolding listedSound
@@ -80,15 +62,15 @@ pub listed-sound-spec : {M : Type 1} → statement M
 listed-sound-spec =
     tie.close
     (tie.spec
-    kind-known-requires
+    (λ c κs. search needs)
     returns
-    address-given-requires
+    (λ c κs. search needs)
     returns-2
-    count-fits-requires
+    (λ c κs. search needs)
     returns-3
-    sets-in-choices-requires
+    (λ c κs. search needs)
     returns-4
-    reversible-twice-requires
+    (λ c κs. search needs)
     returns-5
-    numbers-listed-requires
+    (λ c κs. search needs)
     returns-6)

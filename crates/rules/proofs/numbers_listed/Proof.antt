@@ -18,68 +18,14 @@ three-tested c = both-of (c .both5 .ensures) (two-tested (c .before .before .bef
 returns : tie.Need-returns
 returns c = sym (listed-none _ (c .if1 .taken))
 
-array-read-first : tie.Need-array-read-first
-array-read-first c = search needs
-
-box-number-requires : tie.Need-box-number-requires
-box-number-requires c κs = search needs
-
 returns-2 : tie.Need-returns-2
 returns-2 c = c .box-number .ensures ∙ sym (listed-one _ (c .before .if2 .taken))
-
-array-read-second : tie.Need-array-read-second
-array-read-second c = search needs
-
-box-number-requires-2 : tie.Need-box-number-requires-2
-box-number-requires-2 c κs = search needs
-
-box-number-requires-3 : tie.Need-box-number-requires-3
-box-number-requires-3 c κs = search needs
-
-both-requires : tie.Need-both-requires
-both-requires c κs = search needs
-
-both-requires-2 : tie.Need-both-requires-2
-both-requires-2 c κs = search needs
 
 returns-3 : tie.Need-returns-3
 returns-3 c = two-tested (c .before .before) ∙ sym (listed-two _ (c .if3 .taken))
 
-array-read-third : tie.Need-array-read-third
-array-read-third c = search needs
-
-box-number-requires-4 : tie.Need-box-number-requires-4
-box-number-requires-4 c κs = search needs
-
-both-requires-3 : tie.Need-both-requires-3
-both-requires-3 c κs = search needs
-
-both-requires-4 : tie.Need-both-requires-4
-both-requires-4 c κs = search needs
-
-both-requires-5 : tie.Need-both-requires-5
-both-requires-5 c κs = search needs
-
 returns-4 : tie.Need-returns-4
 returns-4 c = three-tested (c .before .before) ∙ sym (listed-three _ (c .if4 .taken))
-
-array-read-fourth : tie.Need-array-read-fourth
-array-read-fourth c = search needs
-
-box-number-requires-5 : tie.Need-box-number-requires-5
-box-number-requires-5 c κs = search needs
-
-both-requires-6 : tie.Need-both-requires-6
-both-requires-6 c κs = search needs
-
-both-requires-7 : tie.Need-both-requires-7
-both-requires-7 c κs = search needs
-
-both-requires-8 : tie.Need-both-requires-8
-both-requires-8 c κs = search needs
-
-both-requires-9 : tie.Need-both-requires-9
-both-requires-9 c κs = search needs
 
 returns-5 : tie.Need-returns-5
 returns-5 c =
@@ -93,25 +39,25 @@ numbers-listed-spec =
     tie.close
     (tie.spec
     returns
-    array-read-first
-    box-number-requires
+    (λ c. search needs)
+    (λ c κs. search needs)
     returns-2
-    array-read-second
-    box-number-requires-2
-    box-number-requires-3
-    both-requires
-    both-requires-2
+    (λ c. search needs)
+    (λ c κs. search needs)
+    (λ c κs. search needs)
+    (λ c κs. search needs)
+    (λ c κs. search needs)
     returns-3
-    array-read-third
-    box-number-requires-4
-    both-requires-3
-    both-requires-4
-    both-requires-5
+    (λ c. search needs)
+    (λ c κs. search needs)
+    (λ c κs. search needs)
+    (λ c κs. search needs)
+    (λ c κs. search needs)
     returns-4
-    array-read-fourth
-    box-number-requires-5
-    both-requires-6
-    both-requires-7
-    both-requires-8
-    both-requires-9
+    (λ c. search needs)
+    (λ c κs. search needs)
+    (λ c κs. search needs)
+    (λ c κs. search needs)
+    (λ c κs. search needs)
+    (λ c κs. search needs)
     returns-5)

@@ -1,94 +1,29 @@
--- `rules::own_sound` meets its contract. Assumes nothing.
-use Rattle.typeset.proofs.Bools.{passed, failed}
-use Rattle.plan.specs.Sound.{ownSound}
+-- `rules::own_sound` meets its contract: the tests one by one. Assumes nothing.
 use borrow.Author.Needs.{needs}
+use Rattle.plan.specs.Sound.{ownSound}
 use Rattle.rules.proofs.own_sound.Statement.{statement}
 use Rattle.rules.proofs.own_sound.Tie as tie
 
-kind-known-requires : tie.Need-kind-known-requires
-kind-known-requires c κs = search needs
-
 returns : tie.Need-returns
 unfolding ownSound
-returns c = rw (failed (c .before .kind-known .ensures) (c .if1 .taken))
-
-address-given-requires : tie.Need-address-given-requires
-address-given-requires c κs = search needs
-
-returns-2 : tie.Need-returns-2
-unfolding ownSound
-returns-2 c =
+returns c =
     rw (
-      passed (c .before .before .before .kind-known .ensures) (c .before .before .if1 .left),
-      failed (c .before .address-given .ensures) (c .if2 .taken),
+      c .boxes-sound .ensures,
+      c .before .reversible-twice .ensures,
+      c .before .before .sets-in-choices .ensures,
+      c .before .before .before .count-fits .ensures,
+      c .before .before .before .before .address-given .ensures,
+      c .before .before .before .before .before .kind-known .ensures,
     )
-
-count-fits-requires : tie.Need-count-fits-requires
-count-fits-requires c κs = search needs
-
-returns-3 : tie.Need-returns-3
-unfolding ownSound
-returns-3 c =
-    rw (
-      passed (c .before .before .before .before .before .kind-known .ensures) (c .before .before .before .before .if1 .left),
-      passed (c .before .before .before .address-given .ensures) (c .before .before .if2 .left),
-      failed (c .before .count-fits .ensures) (c .if3 .taken),
-    )
-
-sets-in-choices-requires : tie.Need-sets-in-choices-requires
-sets-in-choices-requires c κs = search needs
-
-returns-4 : tie.Need-returns-4
-unfolding ownSound
-returns-4 c =
-    rw (
-      passed (c .before .before .before .before .before .before .before .kind-known .ensures) (c .before .before .before .before .before .before .if1 .left),
-      passed (c .before .before .before .before .before .address-given .ensures) (c .before .before .before .before .if2 .left),
-      passed (c .before .before .before .count-fits .ensures) (c .before .before .if3 .left),
-      failed (c .before .sets-in-choices .ensures) (c .if4 .taken),
-    )
-
-reversible-twice-requires : tie.Need-reversible-twice-requires
-reversible-twice-requires c κs = search needs
-
-returns-5 : tie.Need-returns-5
-unfolding ownSound
-returns-5 c =
-    rw (
-      passed (c .before .before .before .before .before .before .before .before .before .kind-known .ensures) (c .before .before .before .before .before .before .before .before .if1 .left),
-      passed (c .before .before .before .before .before .before .before .address-given .ensures) (c .before .before .before .before .before .before .if2 .left),
-      passed (c .before .before .before .before .before .count-fits .ensures) (c .before .before .before .before .if3 .left),
-      passed (c .before .before .before .sets-in-choices .ensures) (c .before .before .if4 .left),
-      failed (c .before .reversible-twice .ensures) (c .if5 .taken),
-    )
-
-boxes-sound-requires : tie.Need-boxes-sound-requires
-boxes-sound-requires c κs = search needs
-
-returns-6 : tie.Need-returns-6
-unfolding ownSound
-returns-6 c =
-    rw (
-      passed (c .before .before .before .before .before .before .before .before .before .before .kind-known .ensures) (c .before .before .before .before .before .before .before .before .before .if1 .left),
-      passed (c .before .before .before .before .before .before .before .before .address-given .ensures) (c .before .before .before .before .before .before .before .if2 .left),
-      passed (c .before .before .before .before .before .before .count-fits .ensures) (c .before .before .before .before .before .if3 .left),
-      passed (c .before .before .before .before .sets-in-choices .ensures) (c .before .before .before .if4 .left),
-      passed (c .before .before .reversible-twice .ensures) (c .before .if5 .left),
-    ) (c .boxes-sound .ensures)
 
 pub own-sound-spec : {M : Type 1} → statement M
 own-sound-spec =
     tie.close
     (tie.spec
-    kind-known-requires
-    returns
-    address-given-requires
-    returns-2
-    count-fits-requires
-    returns-3
-    sets-in-choices-requires
-    returns-4
-    reversible-twice-requires
-    returns-5
-    boxes-sound-requires
-    returns-6)
+    (λ c κs. search needs)
+    (λ c κs. search needs)
+    (λ c κs. search needs)
+    (λ c κs. search needs)
+    (λ c κs. search needs)
+    (λ c κs. search needs)
+    returns)

@@ -5,19 +5,13 @@ use borrow.Author.Needs.{needs}
 use Rattle.rules.proofs.sets_in_choices.Statement.{statement}
 use Rattle.rules.proofs.sets_in_choices.Tie as tie
 
-within-requires : tie.Need-within-requires
-within-requires c κs = search needs
-
 returns : tie.Need-returns
 unfolding setsInChoices
 returns c = rw (failed (c .before .within .ensures) (c .if1 .taken))
-
-within-requires-2 : tie.Need-within-requires-2
-within-requires-2 c κs = search needs
 
 returns-2 : tie.Need-returns-2
 unfolding setsInChoices
 returns-2 c = rw (passed (c .before .before .within .ensures) (c .before .if1 .left)) (c .within2 .ensures)
 
 pub sets-in-choices-spec : {M : Type 1} → statement M
-sets-in-choices-spec = tie.close (tie.spec within-requires returns within-requires-2 returns-2)
+sets-in-choices-spec = tie.close (tie.spec (λ c κs. search needs) returns (λ c κs. search needs) returns-2)

@@ -5,22 +5,13 @@ use borrow.Author.Needs.{needs}
 use Rattle.rules.proofs.types_exist.Statement.{statement}
 use Rattle.rules.proofs.types_exist.Tie as tie
 
-within-requires : tie.Need-within-requires
-within-requires c κs = search needs
-
 returns : tie.Need-returns
 unfolding typesExist
 returns c = rw (failed (c .before .within .ensures) (c .if1 .taken))
 
-within-requires-2 : tie.Need-within-requires-2
-within-requires-2 c κs = search needs
-
 returns-2 : tie.Need-returns-2
 unfolding typesExist
 returns-2 c = rw (passed (c .before .before .before .within .ensures) (c .before .before .if1 .left), failed (c .before .within2 .ensures) (c .if2 .taken))
-
-within-requires-3 : tie.Need-within-requires-3
-within-requires-3 c κs = search needs
 
 returns-3 : tie.Need-returns-3
 unfolding typesExist
@@ -30,9 +21,6 @@ returns-3 c =
       passed (c .before .before .before .within2 .ensures) (c .before .before .if2 .left),
       failed (c .before .within3 .ensures) (c .if3 .taken),
     )
-
-within-requires-4 : tie.Need-within-requires-4
-within-requires-4 c κs = search needs
 
 returns-4 : tie.Need-returns-4
 unfolding typesExist
@@ -47,11 +35,11 @@ pub types-exist-spec : {M : Type 1} → statement M
 types-exist-spec =
     tie.close
     (tie.spec
-    within-requires
+    (λ c κs. search needs)
     returns
-    within-requires-2
+    (λ c κs. search needs)
     returns-2
-    within-requires-3
+    (λ c κs. search needs)
     returns-3
-    within-requires-4
+    (λ c κs. search needs)
     returns-4)

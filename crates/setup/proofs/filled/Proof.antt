@@ -15,23 +15,8 @@ Inv-loop s end places₀ i₀ places i = (i ≤ end) × (onward places s i ≡ p
 abbrev μ-loop : tie.MeasureT-loop
 μ-loop s end places₀ i₀ places i = end - i
 
-at-most-32-requires : tie.Need-at-most-32-requires Inv-loop μ-loop
-at-most-32-requires c κs = search needs
-
 loop-holds : tie.Need-loop-holds Inv-loop μ-loop
 loop-holds c = (search needs, onward-padded _)
-
-shared-slice-read-places : tie.Need-shared-slice-read-places Inv-loop μ-loop
-shared-slice-read-places c = search needs
-
-array-write-places : tie.Need-array-write-places Inv-loop μ-loop
-array-write-places c = search needs
-
-add-i : tie.Need-add-i Inv-loop μ-loop
-add-i c = search needs
-
-loop-less : tie.Need-loop-less Inv-loop μ-loop
-loop-less c = search needs
 
 loop-again : tie.Need-loop-again Inv-loop μ-loop
 loop-again c =
@@ -49,11 +34,11 @@ filled-spec =
     (tie.spec
     Inv-loop
     μ-loop
-    at-most-32-requires
+    (λ c κs. search needs)
     loop-holds
-    shared-slice-read-places
-    array-write-places
-    add-i
-    loop-less
+    (λ c. search needs)
+    (λ c. search needs)
+    (λ c. search needs)
+    (λ c. search needs)
     loop-again
     returns)

@@ -9,12 +9,6 @@ use borrow.Author.Needs.{needs}
 use Rattle.setup.proofs.kept_list.Statement.{statement}
 use Rattle.setup.proofs.kept_list.Tie as tie
 
-cast-at-most-32 : tie.Need-cast-at-most-32
-cast-at-most-32 c = search needs
-
-at-most-32-requires : tie.Need-at-most-32-requires
-at-most-32-requires c κs = search needs
-
 array-share-prefix-types : tie.Need-array-share-prefix-types
 array-share-prefix-types c =
     let long : length (c .before .before .before .args .z .types) ≡ 32 = search needs in
@@ -24,9 +18,6 @@ slice-aggregate-listed : tie.Need-slice-aggregate-listed
 slice-aggregate-listed c =
     let long : length (c .before .before .before .before .args .z .types) ≡ 32 = search needs in
     simp length-take (omega (arith, c .before .at-most-32 .ensures))
-
-listed-requires : tie.Need-listed-requires
-listed-requires c κs = search needs
 
 returns : tie.Need-returns
 unfolding listOf
@@ -40,9 +31,9 @@ pub kept-list-spec : {M : Type 1} → statement M
 kept-list-spec =
     tie.close
     (tie.spec
-    cast-at-most-32
-    at-most-32-requires
+    (λ c. search needs)
+    (λ c κs. search needs)
     array-share-prefix-types
     slice-aggregate-listed
-    listed-requires
+    (λ c κs. search needs)
     returns)

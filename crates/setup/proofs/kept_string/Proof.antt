@@ -8,12 +8,6 @@ use borrow.Author.Needs.{needs}
 use Rattle.setup.proofs.kept_string.Statement.{statement}
 use Rattle.setup.proofs.kept_string.Tie as tie
 
-cast-at-most-32 : tie.Need-cast-at-most-32
-cast-at-most-32 c = search needs
-
-at-most-32-requires : tie.Need-at-most-32-requires
-at-most-32-requires c κs = search needs
-
 array-share-prefix-symbols : tie.Need-array-share-prefix-symbols
 array-share-prefix-symbols c =
     let long : length (c .before .before .before .args .d .symbols) ≡ 32 = search needs in
@@ -23,9 +17,6 @@ slice-aggregate-dial : tie.Need-slice-aggregate-dial
 slice-aggregate-dial c =
     let long : length (c .before .before .before .before .args .d .symbols) ≡ 32 = search needs in
     simp length-take (omega (arith, c .before .at-most-32 .ensures))
-
-dial-requires : tie.Need-dial-requires
-dial-requires c κs = search needs
 
 returns : tie.Need-returns
 unfolding stringOf
@@ -39,9 +30,9 @@ pub kept-string-spec : {M : Type 1} → statement M
 kept-string-spec =
     tie.close
     (tie.spec
-    cast-at-most-32
-    at-most-32-requires
+    (λ c. search needs)
+    (λ c κs. search needs)
     array-share-prefix-symbols
     slice-aggregate-dial
-    dial-requires
+    (λ c κs. search needs)
     returns)

@@ -19,9 +19,6 @@ Inv-loop symbols len i₀ i = (i ≤ len) × (every i (λ k. symbol (getD symbol
 abbrev μ-loop : tie.MeasureT-loop
 μ-loop symbols len i₀ i = len - i
 
-cast-len : tie.Need-cast-len Inv-loop μ-loop
-cast-len c = search needs
-
 returns : tie.Need-returns Inv-loop μ-loop
 unfolding legalDialled
 returns c = rw (lt-leb _ 32 (c .if1 .taken))
@@ -29,21 +26,9 @@ returns c = rw (lt-leb _ 32 (c .if1 .taken))
 loop-holds : tie.Need-loop-holds Inv-loop μ-loop
 loop-holds c = (search needs, every-none _)
 
-array-read-symbol : tie.Need-array-read-symbol Inv-loop μ-loop
-array-read-symbol c = search needs
-
-symbol-requires : tie.Need-symbol-requires Inv-loop μ-loop
-symbol-requires c κs = search needs
-
 returns-2 : tie.Need-returns-2 Inv-loop μ-loop
 unfolding legalDialled
 returns-2 c = rw (le-leb _ 32 (c .before .before .before .before .if1 .left)) (sym (every-no _ _ _ (c .before .before .loop-test .taken) (failed (c .before .symbol .ensures) (c .if2 .taken))))
-
-add-i : tie.Need-add-i Inv-loop μ-loop
-add-i c = search needs
-
-loop-less : tie.Need-loop-less Inv-loop μ-loop
-loop-less c = search needs
 
 loop-again : tie.Need-loop-again Inv-loop μ-loop
 loop-again c = (search needs, every-more _ _ (c .before .before .before .loop .inv .1) (passed (c .before .symbol .ensures) (c .if2 .left)))
@@ -60,13 +45,13 @@ legal-dialled-spec =
     (tie.spec
     Inv-loop
     μ-loop
-    cast-len
+    (λ c. search needs)
     returns
     loop-holds
-    array-read-symbol
-    symbol-requires
+    (λ c. search needs)
+    (λ c κs. search needs)
     returns-2
-    add-i
-    loop-less
+    (λ c. search needs)
+    (λ c. search needs)
     loop-again
     returns-3)

@@ -26,21 +26,9 @@ returns c = rw (lt-leb _ 32 (c .if1 .taken))
 loop-holds : tie.Need-loop-holds Inv-loop μ-loop
 loop-holds c = (search needs, every-none _)
 
-shared-slice-read-symbol : tie.Need-shared-slice-read-symbol Inv-loop μ-loop
-shared-slice-read-symbol c = search needs
-
-symbol-requires : tie.Need-symbol-requires Inv-loop μ-loop
-symbol-requires c κs = search needs
-
 returns-2 : tie.Need-returns-2 Inv-loop μ-loop
 unfolding legalString
 returns-2 c = rw (le-leb _ 32 (c .before .before .before .before .before .if1 .left)) (sym (every-no _ _ _ (c .before .before .before .loop-test .taken) (failed (c .before .symbol .ensures) (c .if2 .taken))))
-
-add-i : tie.Need-add-i Inv-loop μ-loop
-add-i c = search needs
-
-loop-less : tie.Need-loop-less Inv-loop μ-loop
-loop-less c = search needs
 
 loop-again : tie.Need-loop-again Inv-loop μ-loop
 loop-again c = (search needs, every-more _ _ (c .before .before .before .before .loop .inv .1) (passed (c .before .symbol .ensures) (c .if2 .left)))
@@ -59,10 +47,10 @@ legal-string-spec =
     μ-loop
     returns
     loop-holds
-    shared-slice-read-symbol
-    symbol-requires
+    (λ c. search needs)
+    (λ c κs. search needs)
     returns-2
-    add-i
-    loop-less
+    (λ c. search needs)
+    (λ c. search needs)
     loop-again
     returns-3)

@@ -7,12 +7,6 @@ use borrow.Author.Needs.{needs}
 use Rattle.setup.proofs.list_length.Statement.{statement}
 use Rattle.setup.proofs.list_length.Tie as tie
 
-cast-at-most-32 : tie.Need-cast-at-most-32
-cast-at-most-32 c = search needs
-
-at-most-32-requires : tie.Need-at-most-32-requires
-at-most-32-requires c κs = search needs
-
 returns : tie.Need-returns
 unfolding listOf
 returns c =
@@ -21,4 +15,4 @@ returns c =
     c .at-most-32 .ensures ∙ sym (cut-length (z .len) (z .types) long)
 
 pub list-length-spec : {M : Type 1} → statement M
-list-length-spec = tie.close (tie.spec cast-at-most-32 at-most-32-requires returns)
+list-length-spec = tie.close (tie.spec (λ c. search needs) (λ c κs. search needs) returns)

@@ -4,12 +4,9 @@ use borrow.Author.Needs.{needs}
 use Rattle.setup.proofs.routing_address.Statement.{statement}
 use Rattle.setup.proofs.routing_address.Tie as tie
 
-routing-requires : tie.Need-routing-requires
-routing-requires c κs = search needs
-
 returns : tie.Need-returns
 unfolding routingAddress
 returns c = c .routing .ensures
 
 pub routing-address-spec : {M : Type 1} → statement M
-routing-address-spec = tie.close (tie.spec routing-requires returns)
+routing-address-spec = tie.close (tie.spec (λ c κs. search needs) returns)

@@ -24,15 +24,6 @@ add-all c = omega arith
 shared-slice-read-all : tie.Need-shared-slice-read-all Inv-loop μ-loop
 shared-slice-read-all c = omega arith
 
-array-write-all : tie.Need-array-write-all Inv-loop μ-loop
-array-write-all c = search needs
-
-add-i : tie.Need-add-i Inv-loop μ-loop
-add-i c = search needs
-
-loop-less : tie.Need-loop-less Inv-loop μ-loop
-loop-less c = search needs
-
 loop-again : tie.Need-loop-again Inv-loop μ-loop
 loop-again c = (search needs, sym (taken-next (c .before .before .before .args .bytes .now) (c .before .before .loop .all) (c .before .before .before .args .at) (c .before .before .loop .i) (search needs) (search needs)) ∙ c .before .before .loop .inv .1)
 
@@ -50,8 +41,8 @@ places-spec =
     loop-holds
     add-all
     shared-slice-read-all
-    array-write-all
-    add-i
-    loop-less
+    (λ c. search needs)
+    (λ c. search needs)
+    (λ c. search needs)
     loop-again
     returns)

@@ -18,20 +18,11 @@ abbrev μ-loop : tie.MeasureT-loop
 loop-holds : tie.Need-loop-holds Inv-loop μ-loop
 loop-holds c = (search needs, put-all (c .args .room .now) (c .args .part .now) (c .args .at))
 
-shared-slice-read-room : tie.Need-shared-slice-read-room Inv-loop μ-loop
-shared-slice-read-room c = search needs
-
 add-room : tie.Need-add-room Inv-loop μ-loop
 add-room c = omega arith
 
 element-write-room : tie.Need-element-write-room Inv-loop μ-loop
 element-write-room c = omega arith
-
-add-i : tie.Need-add-i Inv-loop μ-loop
-add-i c = search needs
-
-loop-less : tie.Need-loop-less Inv-loop μ-loop
-loop-less c = search needs
 
 loop-again : tie.Need-loop-again Inv-loop μ-loop
 loop-again c = (search needs, sym (put-next (c .before .before .loop .room) (c .before .before .before .args .part .now) (c .before .before .before .args .at) (c .before .before .loop .i) (search needs)) ∙ c .before .before .loop .inv .1)
@@ -46,10 +37,10 @@ put-spec =
     Inv-loop
     μ-loop
     loop-holds
-    shared-slice-read-room
+    (λ c. search needs)
     add-room
     element-write-room
-    add-i
-    loop-less
+    (λ c. search needs)
+    (λ c. search needs)
     loop-again
     returns)

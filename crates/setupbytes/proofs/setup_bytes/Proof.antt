@@ -7,27 +7,6 @@ use borrow.Author.Needs.{needs}
 use Rattle.setupbytes.proofs.setup_bytes.Statement.{statement}
 use Rattle.setupbytes.proofs.setup_bytes.Tie as tie
 
-head-requires : tie.Need-head-requires
-head-requires c κs = search needs
-
-slice-aggregate-put : tie.Need-slice-aggregate-put
-slice-aggregate-put c = search needs
-
-put-requires : tie.Need-put-requires
-put-requires c κs = search needs
-
-put-places-requires : tie.Need-put-places-requires
-put-places-requires c κs = search needs
-
-put-places-requires-2 : tie.Need-put-places-requires-2
-put-places-requires-2 c κs = search needs
-
-slice-aggregate-put-2 : tie.Need-slice-aggregate-put-2
-slice-aggregate-put-2 c = search needs
-
-put-requires-2 : tie.Need-put-requires-2
-put-requires-2 c κs = search needs
-
 returns : tie.Need-returns
 unfolding setupBytes
 returns c =
@@ -40,11 +19,11 @@ pub setup-bytes-spec : {M : Type 1} → statement M
 setup-bytes-spec =
     tie.close
     (tie.spec
-    head-requires
-    slice-aggregate-put
-    put-requires
-    put-places-requires
-    put-places-requires-2
-    slice-aggregate-put-2
-    put-requires-2
+    (λ c κs. search needs)
+    (λ c. search needs)
+    (λ c κs. search needs)
+    (λ c κs. search needs)
+    (λ c κs. search needs)
+    (λ c. search needs)
+    (λ c κs. search needs)
     returns)

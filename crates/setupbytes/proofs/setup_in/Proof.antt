@@ -6,27 +6,9 @@ use borrow.Author.Needs.{needs}
 use Rattle.setupbytes.proofs.setup_in.Statement.{statement}
 use Rattle.setupbytes.proofs.setup_in.Tie as tie
 
-blank-setup-requires : tie.Need-blank-setup-requires
-blank-setup-requires c κs = search needs
-
 returns : tie.Need-returns
 unfolding setupIn
 returns c = rw (c .blank-setup .ensures, ne-eqb _ 110 (c .before .if1 .taken))
-
-fields-in-requires : tie.Need-fields-in-requires
-fields-in-requires c κs = search needs
-
-setup-bytes-requires : tie.Need-setup-bytes-requires
-setup-bytes-requires c κs = search needs
-
-slice-aggregate-same : tie.Need-slice-aggregate-same
-slice-aggregate-same c = search needs
-
-same-requires : tie.Need-same-requires
-same-requires c κs = search needs
-
-blank-setup-requires-2 : tie.Need-blank-setup-requires-2
-blank-setup-requires-2 c κs = search needs
 
 returns-2 : tie.Need-returns-2
 unfolding setupIn
@@ -40,12 +22,12 @@ pub setup-in-spec : {M : Type 1} → statement M
 setup-in-spec =
     tie.close
     (tie.spec
-    blank-setup-requires
+    (λ c κs. search needs)
     returns
-    fields-in-requires
-    setup-bytes-requires
-    slice-aggregate-same
-    same-requires
-    blank-setup-requires-2
+    (λ c κs. search needs)
+    (λ c κs. search needs)
+    (λ c. search needs)
+    (λ c κs. search needs)
+    (λ c κs. search needs)
     returns-2
     returns-3)

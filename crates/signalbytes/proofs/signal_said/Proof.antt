@@ -13,11 +13,8 @@ returns-2 c = rw (ne-eqb _ 0 (c .before .if1 .left), eq-eqb _ 1 (c .if2 .taken))
 returns-3 : tie.Need-returns-3
 returns-3 c = rw (ne-eqb _ 0 (c .before .before .if1 .left), ne-eqb _ 1 (c .before .if2 .left), eq-eqb _ 2 (c .if3 .taken))
 
-status-said-requires : tie.Need-status-said-requires
-status-said-requires c κs = search needs
-
 returns-4 : tie.Need-returns-4
 returns-4 c = rw (ne-eqb _ 0 (c .before .before .before .if1 .left), ne-eqb _ 1 (c .before .before .if2 .left), ne-eqb _ 2 (c .before .if3 .left), c .status-said .ensures)
 
 pub signal-said-spec : {M : Type 1} → statement M
-signal-said-spec = tie.close (tie.spec returns returns-2 returns-3 status-said-requires returns-4)
+signal-said-spec = tie.close (tie.spec returns returns-2 returns-3 (λ c κs. search needs) returns-4)

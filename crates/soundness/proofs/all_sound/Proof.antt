@@ -22,32 +22,11 @@ abbrev μ-loop : tie.MeasureT-loop
 loop-holds : tie.Need-loop-holds Inv-loop μ-loop
 loop-holds c = (search needs, every-none _, rw (c .pre .1) (taken-none _))
 
-mul-s : tie.Need-mul-s Inv-loop μ-loop
-mul-s c = search needs
-
-array-copy-out-s : tie.Need-array-copy-out-s Inv-loop μ-loop
-array-copy-out-s c = search needs
-
-place-before-requires : tie.Need-place-before-requires Inv-loop μ-loop
-place-before-requires c κs = search needs
-
-mul-b : tie.Need-mul-b Inv-loop μ-loop
-mul-b c = search needs
-
-array-copy-out-b : tie.Need-array-copy-out-b Inv-loop μ-loop
-array-copy-out-b c = search needs
-
-own-sound-requires : tie.Need-own-sound-requires Inv-loop μ-loop
-own-sound-requires c κs = search needs
-
 returns : tie.Need-returns Inv-loop μ-loop
 unfolding subscriberSound
 returns c =
     sym (every-no _ _ _ (c .before .before .before .before .before .loop-test .taken)
     (rw (failed (c .before .own-sound .ensures) (c .if1 .taken))))
-
-above-requires : tie.Need-above-requires Inv-loop μ-loop
-above-requires c κs = search needs
 
 returns-2 : tie.Need-returns-2 Inv-loop μ-loop
 unfolding subscriberSound
@@ -57,9 +36,6 @@ returns-2 c =
       passed (c .before .before .before .own-sound .ensures) (c .before .before .if1 .left),
       failed (above-code (c .before .before .before .before .before .before .before .before .before .args .t2) (c .before .before .before .before .before .before .before .before .loop .i) (c .before .before .before .before .before .place-before .result) (c .before .before .before .before .before .place-before .ensures) (c .before .above .ensures)) (c .if2 .taken),
     )))
-
-fits-requires : tie.Need-fits-requires Inv-loop μ-loop
-fits-requires c κs = search needs
 
 returns-3 : tie.Need-returns-3 Inv-loop μ-loop
 unfolding subscriberSound
@@ -71,15 +47,6 @@ returns-3 c =
       passed (above-code (c .before .before .before .before .before .before .before .before .before .before .before .before .args .t2) (c .before .before .before .before .before .before .before .before .before .before .before .loop .i) (c .before .before .before .before .before .before .before .before .place-before .result) (c .before .before .before .before .before .before .before .before .place-before .ensures) (c .before .before .before .before .above .ensures)) (c .before .before .before .if2 .left),
       failed (c .before .fits2 .ensures ∙ fits-code (c .before .before .before .before .before .before .before .before .before .before .before .before .args .t) (c .before .before .before .before .before .before .before .before .before .before .before .before .args .t2) (c .before .before .before .before .before .before .before .before .before .before .before .loop .i) (c .before .before .before .before .before .before .before .before .before .before .before .loop .inv .1) (c .before .before .before .before .before .before .before .before .before .before .before .loop .taken) (c .before .before .before .before .before .before .before .before .before .before .before .loop .inv .2) (own)) (c .if3 .taken),
     )))
-
-enter-requires : tie.Need-enter-requires Inv-loop μ-loop
-enter-requires c κs = search needs
-
-add-i : tie.Need-add-i Inv-loop μ-loop
-add-i c = search needs
-
-loop-less : tie.Need-loop-less Inv-loop μ-loop
-loop-less c = search needs
 
 loop-again : tie.Need-loop-again Inv-loop μ-loop
 unfolding subscriberSound
@@ -105,19 +72,19 @@ all-sound-spec =
     Inv-loop
     μ-loop
     loop-holds
-    mul-s
-    array-copy-out-s
-    place-before-requires
-    mul-b
-    array-copy-out-b
-    own-sound-requires
+    (λ c. search needs)
+    (λ c. search needs)
+    (λ c κs. search needs)
+    (λ c. search needs)
+    (λ c. search needs)
+    (λ c κs. search needs)
     returns
-    above-requires
+    (λ c κs. search needs)
     returns-2
-    fits-requires
+    (λ c κs. search needs)
     returns-3
-    enter-requires
-    add-i
-    loop-less
+    (λ c κs. search needs)
+    (λ c. search needs)
+    (λ c. search needs)
     loop-again
     returns-4)

@@ -47,9 +47,6 @@ returns-5 c =
       ne-eqb _ 0 (c .if5 .taken),
     )
 
-no-numbers-requires : tie.Need-no-numbers-requires
-no-numbers-requires c κs = search needs
-
 returns-6 : tie.Need-returns-6
 unfolding blank
 returns-6 c =
@@ -64,4 +61,4 @@ returns-6 c =
 pub blank-spec : {M : Type 1} → statement M
 blank-spec =
     tie.close
-    (tie.spec returns returns-2 returns-3 returns-4 returns-5 no-numbers-requires returns-6)
+    (tie.spec returns returns-2 returns-3 returns-4 returns-5 (λ c κs. search needs) returns-6)

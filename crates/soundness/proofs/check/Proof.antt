@@ -5,9 +5,6 @@ use borrow.Author.Needs.{needs}
 use Rattle.soundness.proofs.check.Statement.{statement}
 use Rattle.soundness.proofs.check.Tie as tie
 
-sound-requires : tie.Need-sound-requires
-sound-requires c κs = search needs
-
 returns : tie.Need-returns
 unfolding verdict
 returns c = rw (sym (c .before .sound .ensures) ∙ c .if1 .taken) (refl, (refl, refl))
@@ -17,4 +14,4 @@ unfolding verdict
 returns-2 c = rw (sym (c .before .sound .ensures) ∙ c .if1 .left) (refl, (refl, refl))
 
 pub check-spec : {M : Type 1} → statement M
-check-spec = tie.close (tie.spec sound-requires returns returns-2)
+check-spec = tie.close (tie.spec (λ c κs. search needs) returns returns-2)

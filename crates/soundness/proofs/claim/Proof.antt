@@ -19,12 +19,6 @@ abbrev μ-loop : tie.MeasureT-loop
 returns : tie.Need-returns Inv-loop μ-loop
 returns c = sym (claimed-none _ _ (c .if1 .taken))
 
-array-read-take-number : tie.Need-array-read-take-number Inv-loop μ-loop
-array-read-take-number c = search needs
-
-take-number-requires : tie.Need-take-number-requires Inv-loop μ-loop
-take-number-requires c κs = search needs
-
 returns-2 : tie.Need-returns-2 Inv-loop μ-loop
 returns-2 c =
     let long : length (c .before .before .before .before .before .before .before .args .s .boxes) ≡ 4 = search needs in
@@ -32,24 +26,6 @@ returns-2 c =
 
 loop-holds : tie.Need-loop-holds Inv-loop μ-loop
 loop-holds c = (search needs, rest-all _ _)
-
-cast-if3 : tie.Need-cast-if3 Inv-loop μ-loop
-cast-if3 c = search needs
-
-mul-take-number : tie.Need-mul-take-number Inv-loop μ-loop
-mul-take-number c = search needs
-
-array-read-take-number-2 : tie.Need-array-read-take-number-2 Inv-loop μ-loop
-array-read-take-number-2 c = search needs
-
-take-number-requires-2 : tie.Need-take-number-requires-2 Inv-loop μ-loop
-take-number-requires-2 c κs = search needs
-
-add-x : tie.Need-add-x Inv-loop μ-loop
-add-x c = search needs
-
-loop-less : tie.Need-loop-less Inv-loop μ-loop
-loop-less c = search needs
 
 loop-again : tie.Need-loop-again Inv-loop μ-loop
 loop-again c =
@@ -73,15 +49,15 @@ claim-spec =
     Inv-loop
     μ-loop
     returns
-    array-read-take-number
-    take-number-requires
+    (λ c. search needs)
+    (λ c κs. search needs)
     returns-2
     loop-holds
-    cast-if3
-    mul-take-number
-    array-read-take-number-2
-    take-number-requires-2
-    add-x
-    loop-less
+    (λ c. search needs)
+    (λ c. search needs)
+    (λ c. search needs)
+    (λ c κs. search needs)
+    (λ c. search needs)
+    (λ c. search needs)
     loop-again
     returns-3)

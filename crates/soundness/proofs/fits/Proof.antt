@@ -39,56 +39,17 @@ returns : tie.Need-returns
 unfolding every
 returns c = sym (fits-first _ _ 0 (omega arith))
 
-array-read-may-take : tie.Need-array-read-may-take
-array-read-may-take c = search needs
-
-may-take-requires : tie.Need-may-take-requires
-may-take-requires c κs = search needs
-
 returns-2 : tie.Need-returns-2
 unfolding every
 returns-2 c = c .may-take .ensures ∙ sym (fits-first _ _ 1 (omega arith) ∙ simp and-true)
-
-array-read-may-take-2 : tie.Need-array-read-may-take-2
-array-read-may-take-2 c = search needs
-
-may-take-requires-2 : tie.Need-may-take-requires-2
-may-take-requires-2 c κs = search needs
-
-array-read-may-take-3 : tie.Need-array-read-may-take-3
-array-read-may-take-3 c = search needs
-
-may-take-requires-3 : tie.Need-may-take-requires-3
-may-take-requires-3 c κs = search needs
-
-both-requires : tie.Need-both-requires
-both-requires c κs = search needs
 
 returns-3 : tie.Need-returns-3
 unfolding every
 returns-3 c = two-tested (c .before .before) ∙ sym (fits-first _ _ 2 (omega arith) ∙ simp and-true)
 
-array-read-may-take-4 : tie.Need-array-read-may-take-4
-array-read-may-take-4 c = search needs
-
-may-take-requires-4 : tie.Need-may-take-requires-4
-may-take-requires-4 c κs = search needs
-
-both-requires-2 : tie.Need-both-requires-2
-both-requires-2 c κs = search needs
-
 returns-4 : tie.Need-returns-4
 unfolding every
 returns-4 c = three-tested (c .before .before) ∙ sym (fits-first _ _ 3 (omega arith) ∙ simp (and-true, and-assoc))
-
-array-read-may-take-5 : tie.Need-array-read-may-take-5
-array-read-may-take-5 c = search needs
-
-may-take-requires-5 : tie.Need-may-take-requires-5
-may-take-requires-5 c κs = search needs
-
-both-requires-3 : tie.Need-both-requires-3
-both-requires-3 c κs = search needs
 
 returns-5 : tie.Need-returns-5
 unfolding every
@@ -103,20 +64,20 @@ fits-spec =
     tie.close
     (tie.spec
     returns
-    array-read-may-take
-    may-take-requires
+    (λ c. search needs)
+    (λ c κs. search needs)
     returns-2
-    array-read-may-take-2
-    may-take-requires-2
-    array-read-may-take-3
-    may-take-requires-3
-    both-requires
+    (λ c. search needs)
+    (λ c κs. search needs)
+    (λ c. search needs)
+    (λ c κs. search needs)
+    (λ c κs. search needs)
     returns-3
-    array-read-may-take-4
-    may-take-requires-4
-    both-requires-2
+    (λ c. search needs)
+    (λ c κs. search needs)
+    (λ c κs. search needs)
     returns-4
-    array-read-may-take-5
-    may-take-requires-5
-    both-requires-3
+    (λ c. search needs)
+    (λ c κs. search needs)
+    (λ c κs. search needs)
     returns-5)

@@ -7,18 +7,9 @@ use borrow.Author.Needs.{needs}
 use Rattle.soundness.proofs.may_take.Statement.{statement}
 use Rattle.soundness.proofs.may_take.Tie as tie
 
-holder-requires : tie.Need-holder-requires
-holder-requires c κs = search needs
-
-both-requires : tie.Need-both-requires
-both-requires c κs = search needs
-
-either-requires : tie.Need-either-requires
-either-requires c κs = search needs
-
 returns : tie.Need-returns
 unfolding mayTake
 returns c = rw (← c .before .before .holder .ensures) (c .either .ensures ∙ ap (λ (b : Bool). eqb (c .before .before .holder .result) 0 || b) (c .before .both .ensures))
 
 pub may-take-spec : {M : Type 1} → statement M
-may-take-spec = tie.close (tie.spec holder-requires both-requires either-requires returns)
+may-take-spec = tie.close (tie.spec (λ c κs. search needs) (λ c κs. search needs) (λ c κs. search needs) returns)

@@ -6,15 +6,9 @@ use borrow.Author.Needs.{needs}
 use Rattle.soundness.proofs.sound.Statement.{statement}
 use Rattle.soundness.proofs.sound.Tie as tie
 
-cast-count : tie.Need-cast-count
-cast-count c = search needs
-
 returns : tie.Need-returns
 unfolding sound
 returns c = rw (lt-leb _ 256 (c .if1 .taken))
-
-types-sound-requires : tie.Need-types-sound-requires
-types-sound-requires c κs = search needs
 
 returns-2 : tie.Need-returns-2
 unfolding sound
@@ -24,9 +18,6 @@ returns-2 c =
       failed (c .before .types-sound .ensures) (c .if2 .taken),
     )
 
-source-sound-requires : tie.Need-source-sound-requires
-source-sound-requires c κs = search needs
-
 returns-3 : tie.Need-returns-3
 unfolding sound
 returns-3 c =
@@ -35,9 +26,6 @@ returns-3 c =
       passed (c .before .before .before .before .types-sound .ensures) (c .before .before .before .if2 .left),
       failed (c .before .source-sound .ensures) (c .if3 .taken),
     )
-
-target-sound-requires : tie.Need-target-sound-requires
-target-sound-requires c κs = search needs
 
 returns-4 : tie.Need-returns-4
 unfolding sound
@@ -49,9 +37,6 @@ returns-4 c =
       failed (c .before .target-sound .ensures) (c .if4 .taken),
     )
 
-subscribers-sound-requires : tie.Need-subscribers-sound-requires
-subscribers-sound-requires c κs = search needs
-
 returns-5 : tie.Need-returns-5
 unfolding sound
 returns-5 c =
@@ -62,9 +47,6 @@ returns-5 c =
       passed (c .before .before .before .target-sound .ensures) (c .before .before .if4 .left),
       failed (c .before .subscribers-sound .ensures) (c .if5 .taken),
     )
-
-rest-blank-requires : tie.Need-rest-blank-requires
-rest-blank-requires c κs = search needs
 
 returns-6 : tie.Need-returns-6
 unfolding sound
@@ -81,15 +63,15 @@ pub sound-spec : {M : Type 1} → statement M
 sound-spec =
     tie.close
     (tie.spec
-    cast-count
+    (λ c. search needs)
     returns
-    types-sound-requires
+    (λ c κs. search needs)
     returns-2
-    source-sound-requires
+    (λ c κs. search needs)
     returns-3
-    target-sound-requires
+    (λ c κs. search needs)
     returns-4
-    subscribers-sound-requires
+    (λ c κs. search needs)
     returns-5
-    rest-blank-requires
+    (λ c κs. search needs)
     returns-6)

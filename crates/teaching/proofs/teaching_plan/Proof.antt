@@ -4,18 +4,6 @@ use borrow.Author.Needs.{needs}
 use Rattle.teaching.proofs.teaching_plan.Statement.{statement}
 use Rattle.teaching.proofs.teaching_plan.Tie as tie
 
-types-requires : tie.Need-types-requires
-types-requires c κs = search needs
-
-source-rows-requires : tie.Need-source-rows-requires
-source-rows-requires c κs = search needs
-
-target-rows-requires : tie.Need-target-rows-requires
-target-rows-requires c κs = search needs
-
-subscribers-requires : tie.Need-subscribers-requires
-subscribers-requires c κs = search needs
-
 returns : tie.Need-returns
 unfolding teaching
 returns c =
@@ -31,8 +19,8 @@ pub teaching-plan-spec : {M : Type 1} → statement M
 teaching-plan-spec =
     tie.close
     (tie.spec
-    types-requires
-    source-rows-requires
-    target-rows-requires
-    subscribers-requires
+    (λ c κs. search needs)
+    (λ c κs. search needs)
+    (λ c κs. search needs)
+    (λ c κs. search needs)
     returns)

@@ -18,9 +18,6 @@ Inv-loop n tens len bytes₀ i₀ bytes i =
 abbrev μ-loop : tie.MeasureT-loop
 μ-loop n tens len bytes₀ i₀ bytes i = len - i
 
-size-requires : tie.Need-size-requires Inv-loop μ-loop
-size-requires c κs = search needs
-
 loop-holds : tie.Need-loop-holds Inv-loop μ-loop
 loop-holds c =
     let all : c .size .result - 0 ≡ c .size .result = omega arith in
@@ -87,7 +84,7 @@ decimal-spec =
     (tie.spec
     Inv-loop
     μ-loop
-    size-requires
+    (λ c κs. search needs)
     loop-holds
     sub-ten
     sub-ten-2

@@ -16,12 +16,6 @@ Inv-loop bytes at room₀ end i₀ room i =
 abbrev μ-loop : tie.MeasureT-loop
 μ-loop bytes at room₀ end i₀ room i = end - i
 
-less-requires : tie.Need-less-requires Inv-loop μ-loop
-less-requires c κs = search needs
-
-at-most-requires : tie.Need-at-most-requires Inv-loop μ-loop
-at-most-requires c κs = search needs
-
 loop-holds : tie.Need-loop-holds Inv-loop μ-loop
 loop-holds c =
     let none : c .before .before .before .before .args .at + 0 ≡ c .before .before .before .before .args .at = omega arith in
@@ -69,8 +63,8 @@ put-spec =
     (tie.spec
     Inv-loop
     μ-loop
-    less-requires
-    at-most-requires
+    (λ c κs. search needs)
+    (λ c κs. search needs)
     loop-holds
     shared-slice-read-room
     add-room

@@ -6,9 +6,6 @@ use Rattle.typeset.proofs.Laws.{has-past}
 use Rattle.typeset.proofs.has.Statement.{statement}
 use Rattle.typeset.proofs.has.Tie as tie
 
-shr-result : tie.Need-shr-result
-shr-result c = search needs
-
 returns : tie.Need-returns
 unfolding has
 returns c = search needs
@@ -17,4 +14,4 @@ returns-2 : tie.Need-returns-2
 returns-2 c = sym (has-past 32 (c .before .args .t) (c .before .fits .set .fits) (c .if1 .left))
 
 pub has-spec : {M : Type 1} → statement M
-has-spec = tie.close (tie.spec shr-result returns returns-2)
+has-spec = tie.close (tie.spec (λ c. search needs) returns returns-2)

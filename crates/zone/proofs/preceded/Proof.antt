@@ -18,23 +18,8 @@ abbrev μ-loop : tie.MeasureT-loop
 loop-holds : tie.Need-loop-holds Inv-loop μ-loop
 loop-holds c = (omega arith, omega arith, found-none _ _)
 
-lowest-requires : tie.Need-lowest-requires Inv-loop μ-loop
-lowest-requires c κs = search needs
-
-cast-join : tie.Need-cast-join Inv-loop μ-loop
-cast-join c = search needs
-
-mul-join : tie.Need-mul-join Inv-loop μ-loop
-mul-join c = search needs
-
 element-copy-out-join : tie.Need-element-copy-out-join Inv-loop μ-loop
 element-copy-out-join c = taken-below (c .before .before .loop .inv .0) (c .before .loop-test .taken) (c .lowest .ensures)
-
-join-requires : tie.Need-join-requires Inv-loop μ-loop
-join-requires c κs = search needs
-
-without-requires : tie.Need-without-requires Inv-loop μ-loop
-without-requires c κs = search needs
 
 loop-less : tie.Need-loop-less Inv-loop μ-loop
 loop-less c = taken-less (c .before .before .before .before .before .loop .inv .0) (c .before .before .before .before .loop-test .taken) (c .before .before .before .lowest .ensures) (c .without .ensures)
@@ -59,12 +44,12 @@ preceded-spec =
     Inv-loop
     μ-loop
     loop-holds
-    lowest-requires
-    cast-join
-    mul-join
+    (λ c κs. search needs)
+    (λ c. search needs)
+    (λ c. search needs)
     element-copy-out-join
-    join-requires
-    without-requires
+    (λ c κs. search needs)
+    (λ c κs. search needs)
     loop-less
     loop-again
     returns)

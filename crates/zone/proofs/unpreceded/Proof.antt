@@ -6,15 +6,9 @@ use Rattle.zone.specs.Order.{unpreceded}
 use Rattle.zone.proofs.unpreceded.Statement.{statement}
 use Rattle.zone.proofs.unpreceded.Tie as tie
 
-preceded-requires : tie.Need-preceded-requires
-preceded-requires c κs = search needs
-
-minus-requires : tie.Need-minus-requires
-minus-requires c κs = search needs
-
 returns : tie.Need-returns
 unfolding unpreceded
 returns c = c .minus .ensures ∙ ap (minus _) (c .before .preceded .ensures)
 
 pub unpreceded-spec : {M : Type 1} → statement M
-unpreceded-spec = tie.close (tie.spec preceded-requires minus-requires returns)
+unpreceded-spec = tie.close (tie.spec (λ c κs. search needs) (λ c κs. search needs) returns)

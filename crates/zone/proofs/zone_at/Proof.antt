@@ -7,18 +7,6 @@ use borrow.Author.Needs.{needs}
 use Rattle.zone.proofs.zone_at.Statement.{statement}
 use Rattle.zone.proofs.zone_at.Tie as tie
 
-find-requires : tie.Need-find-requires
-find-requires c κs = search needs
-
-enum-known-i : tie.Need-enum-known-i
-enum-known-i c = search needs
-
-enum-told : tie.Need-enum-told
-enum-told c = search needs
-
-empty-zone-requires : tie.Need-empty-zone-requires
-empty-zone-requires c κs = search needs
-
 returns : tie.Need-returns
 unfolding zoneAt zoneFor
 returns c = rw (sym (c .before .before .before .find .ensures) ∙ c .before .enum-told .given .1) (c .empty-zone .ensures)
@@ -28,18 +16,6 @@ mul-s c = omega (arith, found-below _ _ _ (sym (c .before .before .before .befor
 
 array-copy-out-s : tie.Need-array-copy-out-s
 array-copy-out-s c = found-below _ _ _ (sym (c .before .before .before .before .find .ensures) ∙ c .before .before .i .given .1)
-
-enum-told-2 : tie.Need-enum-told-2
-enum-told-2 c = search needs
-
-zone-of-requires : tie.Need-zone-of-requires
-zone-of-requires c κs = search needs
-
-enum-told-3 : tie.Need-enum-told-3
-enum-told-3 c = search needs
-
-zone-of-requires-2 : tie.Need-zone-of-requires-2
-zone-of-requires-2 c κs = search needs
 
 returns-2 : tie.Need-returns-2
 unfolding zoneAt zoneFor
@@ -53,16 +29,16 @@ pub zone-at-spec : {M : Type 1} → statement M
 zone-at-spec =
     tie.close
     (tie.spec
-    find-requires
-    enum-known-i
-    enum-told
-    empty-zone-requires
+    (λ c κs. search needs)
+    (λ c. search needs)
+    (λ c. search needs)
+    (λ c κs. search needs)
     returns
     mul-s
     array-copy-out-s
-    enum-told-2
-    zone-of-requires
-    enum-told-3
-    zone-of-requires-2
+    (λ c. search needs)
+    (λ c κs. search needs)
+    (λ c. search needs)
+    (λ c κs. search needs)
     returns-2
     returns-3)

@@ -6,15 +6,6 @@ use borrow.Author.Needs.{needs}
 use Rattle.zone.proofs.zone_for.Statement.{statement}
 use Rattle.zone.proofs.zone_for.Tie as tie
 
-sound-requires : tie.Need-sound-requires
-sound-requires c κs = search needs
-
-zone-at-requires : tie.Need-zone-at-requires
-zone-at-requires c κs = search needs
-
-empty-zone-requires : tie.Need-empty-zone-requires
-empty-zone-requires c κs = search needs
-
 returns : tie.Need-returns
 unfolding answer verdict
 returns c = rw (sym (c .before .before .sound .ensures) ∙ c .before .if1 .taken, c .zone-at .ensures)
@@ -25,4 +16,4 @@ returns-2 c = rw (sym (c .before .before .sound .ensures) ∙ c .before .if1 .le
 
 pub zone-for-spec : {M : Type 1} → statement M
 zone-for-spec =
-    tie.close (tie.spec sound-requires zone-at-requires empty-zone-requires returns returns-2)
+    tie.close (tie.spec (λ c κs. search needs) (λ c κs. search needs) (λ c κs. search needs) returns returns-2)

@@ -26,18 +26,12 @@ abbrev μ-loop : tie.MeasureT-loop
 loop-holds : tie.Need-loop-holds Inv-loop μ-loop
 loop-holds c = (omega arith, omega arith, refl)
 
-next-requires : tie.Need-next-requires Inv-loop μ-loop
-next-requires c κs = search needs
-
 cast-types : tie.Need-cast-types Inv-loop μ-loop
 cast-types c = omega (arith, next-lt (c .before .before .before .before .args .t1) (c .before .before .before .loop .inv .0) (c .before .before .loop-test .taken))
 
 array-write-types : tie.Need-array-write-types Inv-loop μ-loop
 array-write-types c =
     omega (arith, size-le (c .before .before .before .before .args .set), size-step (c .before .before .before .before .args .t1) (c .before .before .before .loop .inv .0) (c .before .before .loop-test .taken))
-
-without-requires : tie.Need-without-requires Inv-loop μ-loop
-without-requires c κs = search needs
 
 add-n : tie.Need-add-n Inv-loop μ-loop
 add-n c = omega (arith, size-le (c .before .before .before .before .before .args .set))
@@ -53,9 +47,6 @@ loop-again c =
     let some = c .before .before .before .loop-test .taken in
     rw (c .without .ensures, c .before .next .ensures)
     (without-lt _ _, omega (arith, size-step (c .before .before .before .before .before .args .t1) (i .0) some), sym (store-step _ _ _ (i .0) some) ∙ i .2)
-
-size-requires : tie.Need-size-requires Inv-loop μ-loop
-size-requires c κs = search needs
 
 cast-t15 : tie.Need-cast-t15 Inv-loop μ-loop
 cast-t15 c = omega (arith, size-le (c .before .before .before .args .set))
@@ -78,13 +69,13 @@ zone-of-spec =
     Inv-loop
     μ-loop
     loop-holds
-    next-requires
+    (λ c κs. search needs)
     cast-types
     array-write-types
-    without-requires
+    (λ c κs. search needs)
     add-n
     loop-less
     loop-again
-    size-requires
+    (λ c κs. search needs)
     cast-t15
     returns)

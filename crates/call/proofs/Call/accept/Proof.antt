@@ -8,14 +8,8 @@ use borrow.Author.Needs.{needs}
 use Rattle.call.proofs.Call.accept.Statement.{statement}
 use Rattle.call.proofs.Call.accept.Tie as tie
 
-answer-requires : tie.Need-answer-requires
-answer-requires c κs = search needs
-
-one-sent-requires : tie.Need-one-sent-requires
-one-sent-requires c κs = search needs
-
 returns : tie.Need-returns
 returns c = c .one-sent .ensures ∙ ap (λ v. oneSent (c .before .before .args .self) Callee v Upack) (c .before .answer .ensures) ∙ sym (accepts (c .before .before .args .self))
 
 pub accept-spec : {M : Type 1} → statement M
-accept-spec = tie.close (tie.spec answer-requires one-sent-requires returns)
+accept-spec = tie.close (tie.spec (λ c κs. search needs) (λ c κs. search needs) returns)

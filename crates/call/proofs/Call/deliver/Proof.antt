@@ -12,34 +12,10 @@ use borrow.Author.Needs.{needs}
 use Rattle.call.proofs.Call.deliver.Statement.{statement}
 use Rattle.call.proofs.Call.deliver.Tie as tie
 
-queue-requires : tie.Need-queue-requires
-queue-requires c κs = search needs
-
-refused-requires : tie.Need-refused-requires
-refused-requires c κs = search needs
-
 returns : tie.Need-returns
 returns c =
     let a = c .before .before .before .before .args in
     c .refused .ensures ∙ sym (deliver-none (a .self) (a .s) (sym (ap (λ (y : Queue). y .count) (c .before .before .before .queue .ensures)) ∙ c .before .if1 .taken))
-
-head-requires : tie.Need-head-requires
-head-requires c κs = search needs
-
-end-requires : tie.Need-end-requires
-end-requires c κs = search needs
-
-take-requires : tie.Need-take-requires
-take-requires c κs = search needs
-
-enum-known-v : tie.Need-enum-known-v
-enum-known-v c = search needs
-
-refused-requires-2 : tie.Need-refused-requires-2
-refused-requires-2 c κs = search needs
-
-enum-known-v-2 : tie.Need-enum-known-v-2
-enum-known-v-2 c = search needs
 
 replied-requires : tie.Need-replied-requires
 replied-requires c κs = rw (c .before .before .before .before .before .before .before .before .queue .ensures) at (pos (c .before .before .before .before .before .before .if1 .left))
@@ -68,15 +44,15 @@ pub deliver-spec : {M : Type 1} → statement M
 deliver-spec =
     tie.close
     (tie.spec
-    queue-requires
-    refused-requires
+    (λ c κs. search needs)
+    (λ c κs. search needs)
     returns
-    head-requires
-    end-requires
-    take-requires
-    enum-known-v
-    refused-requires-2
-    enum-known-v-2
+    (λ c κs. search needs)
+    (λ c κs. search needs)
+    (λ c κs. search needs)
+    (λ c. search needs)
+    (λ c κs. search needs)
+    (λ c. search needs)
     replied-requires
     returns-2
     returns-3)

@@ -9,39 +9,12 @@ use borrow.Author.Needs.{needs}
 use Rattle.call.proofs.Call.one_sent.Statement.{statement}
 use Rattle.call.proofs.Call.one_sent.Tie as tie
 
-enum-known-v : tie.Need-enum-known-v
-enum-known-v c = search needs
-
-refused-requires : tie.Need-refused-requires
-refused-requires c κs = search needs
-
-enum-known-v-2 : tie.Need-enum-known-v-2
-enum-known-v-2 c = search needs
-
-queue-requires : tie.Need-queue-requires
-queue-requires c κs = search needs
-
-other-requires : tie.Need-other-requires
-other-requires c κs = search needs
-
-queue-requires-2 : tie.Need-queue-requires-2
-queue-requires-2 c κs = search needs
-
-refused-requires-2 : tie.Need-refused-requires-2
-refused-requires-2 c κs = search needs
-
 returns : tie.Need-returns
 returns c =
     let a = c .before .before .before .before .before .before .before .before .before .args in
     let q = c .before .before .before .queue2 .ensures ∙ ap (λ o. queueTo o (a .self)) (c .before .before .before .before .other .ensures) in
     let n : 15 < queueTo (other (a .s)) (a .self) .count = rw q at (c .before .if1 .taken) in
     c .refused2 .ensures ∙ sym (rw (c .before .before .before .before .before .before .before .v2 .given .1, lt-leb (queueTo (other (a .s)) (a .self) .count + 1) 16 (omega arith)))
-
-push-requires : tie.Need-push-requires
-push-requires c κs = search needs
-
-moved-requires : tie.Need-moved-requires
-moved-requires c κs = search needs
 
 returns-2 : tie.Need-returns-2
 returns-2 c = c .refused .ensures ∙ sym (rw (c .before .before .v .given .1))
@@ -59,15 +32,15 @@ pub one-sent-spec : {M : Type 1} → statement M
 one-sent-spec =
     tie.close
     (tie.spec
-    enum-known-v
-    refused-requires
-    enum-known-v-2
-    queue-requires
-    other-requires
-    queue-requires-2
-    refused-requires-2
+    (λ c. search needs)
+    (λ c κs. search needs)
+    (λ c. search needs)
+    (λ c κs. search needs)
+    (λ c κs. search needs)
+    (λ c κs. search needs)
+    (λ c κs. search needs)
     returns
-    push-requires
-    moved-requires
+    (λ c κs. search needs)
+    (λ c κs. search needs)
     returns-2
     returns-3)

@@ -5,13 +5,10 @@ use borrow.Author.Needs.{needs}
 use Rattle.call.proofs.Call.quiet.Statement.{statement}
 use Rattle.call.proofs.Call.quiet.Tie as tie
 
-empty-requires : tie.Need-empty-requires
-empty-requires c κs = search needs
-
 returns : tie.Need-returns
 returns c =
     let a = c .before .args in
     ap (λ (q : Queue). record { caller = record { state = a .caller }; callee = record { state = a .callee }; «to_caller» = q; «to_callee» = q; «use_number» = a .use-number }) (c .empty .ensures)
 
 pub quiet-spec : {M : Type 1} → statement M
-quiet-spec = tie.close (tie.spec empty-requires returns)
+quiet-spec = tie.close (tie.spec (λ c κs. search needs) returns)

@@ -10,21 +10,6 @@ use borrow.Author.Needs.{needs}
 use Rattle.call.proofs.Call.send.Statement.{statement}
 use Rattle.call.proofs.Call.send.Tie as tie
 
-other-requires : tie.Need-other-requires
-other-requires c κs = search needs
-
-queue-requires : tie.Need-queue-requires
-queue-requires c κs = search needs
-
-end-requires : tie.Need-end-requires
-end-requires c κs = search needs
-
-speak-requires : tie.Need-speak-requires
-speak-requires c κs = search needs
-
-one-sent-requires : tie.Need-one-sent-requires
-one-sent-requires c κs = search needs
-
 returns : tie.Need-returns
 returns c =
     let a = c .before .before .before .before .before .args in
@@ -37,4 +22,4 @@ returns c =
 pub send-spec : {M : Type 1} → statement M
 send-spec =
     tie.close
-    (tie.spec other-requires queue-requires end-requires speak-requires one-sent-requires returns)
+    (tie.spec (λ c κs. search needs) (λ c κs. search needs) (λ c κs. search needs) (λ c κs. search needs) (λ c κs. search needs) returns)

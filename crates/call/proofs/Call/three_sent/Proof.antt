@@ -12,32 +12,14 @@ use borrow.Author.Needs.{needs}
 use Rattle.call.proofs.Call.three_sent.Statement.{statement}
 use Rattle.call.proofs.Call.three_sent.Tie as tie
 
-enum-known-v : tie.Need-enum-known-v
-enum-known-v c = search needs
-
-refused-requires : tie.Need-refused-requires
-refused-requires c κs = search needs
-
-enum-known-v-2 : tie.Need-enum-known-v-2
-enum-known-v-2 c = search needs
-
-refused-requires-2 : tie.Need-refused-requires-2
-refused-requires-2 c κs = search needs
-
 returns : tie.Need-returns
 returns c = c .refused2 .ensures ∙ sym (rw (c .before .before .before .before .before .before .v2 .given .1, lt-leb (c .before .before .before .before .before .before .before .before .args .self .«to_caller» .count + 3) 16 (omega arith)))
-
-push-requires : tie.Need-push-requires
-push-requires c κs = search needs
 
 push-requires-2 : tie.Need-push-requires-2
 push-requires-2 c κs = omega (arith, ap (λ (q : Queue). q .count) (c .push .ensures))
 
 push-requires-3 : tie.Need-push-requires-3
 push-requires-3 c κs = omega (arith, ap (λ (q : Queue). q .count) (c .push2 .ensures), ap (λ (q : Queue). q .count) (c .before .push .ensures))
-
-moved-requires : tie.Need-moved-requires
-moved-requires c κs = search needs
 
 returns-2 : tie.Need-returns-2
 returns-2 c = c .refused .ensures ∙ sym (rw (c .before .before .v .given .1))
@@ -55,14 +37,14 @@ pub three-sent-spec : {M : Type 1} → statement M
 three-sent-spec =
     tie.close
     (tie.spec
-    enum-known-v
-    refused-requires
-    enum-known-v-2
-    refused-requires-2
+    (λ c. search needs)
+    (λ c κs. search needs)
+    (λ c. search needs)
+    (λ c κs. search needs)
     returns
-    push-requires
+    (λ c κs. search needs)
     push-requires-2
     push-requires-3
-    moved-requires
+    (λ c κs. search needs)
     returns-2
     returns-3)

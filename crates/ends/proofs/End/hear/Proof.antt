@@ -4,9 +4,6 @@ use borrow.Author.Needs.{needs}
 use Rattle.ends.proofs.End.hear.Statement.{statement}
 use Rattle.ends.proofs.End.hear.Tie as tie
 
-is-ordinary-requires : tie.Need-is-ordinary-requires
-is-ordinary-requires c κs = search needs
-
 returns : tie.Need-returns
 returns c = rw (sym (c .before .is-ordinary .ensures) ∙ c .if1 .taken)
 
@@ -14,4 +11,4 @@ returns-2 : tie.Need-returns-2
 returns-2 c = rw (sym (c .before .is-ordinary .ensures) ∙ c .if1 .left)
 
 pub hear-spec : {M : Type 1} → statement M
-hear-spec = tie.close (tie.spec is-ordinary-requires returns returns-2)
+hear-spec = tie.close (tie.spec (λ c κs. search needs) returns returns-2)

@@ -5,14 +5,8 @@ use borrow.Author.Needs.{needs}
 use Rattle.ends.proofs.End.speak.Statement.{statement}
 use Rattle.ends.proofs.End.speak.Tie as tie
 
-is-linked-requires : tie.Need-is-linked-requires
-is-linked-requires c κs = search needs
-
 returns : tie.Need-returns
 returns c = rw (sym (c .before .is-linked .ensures) ∙ not-true _ (c .if1 .taken))
-
-is-ordinary-requires : tie.Need-is-ordinary-requires
-is-ordinary-requires c κs = search needs
 
 returns-2 : tie.Need-returns-2
 returns-2 c = rw (sym (c .before .before .before .is-linked .ensures) ∙ not-false _ (c .before .before .if1 .left), sym (c .before .is-ordinary .ensures) ∙ not-true _ (c .if2 .taken))
@@ -26,4 +20,4 @@ returns-4 c = rw (sym (c .before .before .before .before .is-linked .ensures) �
 pub speak-spec : {M : Type 1} → statement M
 speak-spec =
     tie.close
-    (tie.spec is-linked-requires returns is-ordinary-requires returns-2 returns-3 returns-4)
+    (tie.spec (λ c κs. search needs) returns (λ c κs. search needs) returns-2 returns-3 returns-4)

@@ -1,0 +1,28 @@
+-- `plancheck::listing::zone` meets its contract. Assumes nothing.
+use Prim.Native.Nat.{_≤_, _-_}
+use borrow.Author.Needs.{needs}
+use Rattle.plancheck.proofs.listing.zone.Statement.{statement}
+use Rattle.plancheck.proofs.listing.zone.Tie as tie
+
+abbrev Inv-loop : tie.InvT-loop
+Inv-loop types len i₀ i = i ≤ 32
+
+abbrev μ-loop : tie.MeasureT-loop
+μ-loop types len i₀ i = 32 - i
+
+pub zone-spec : {M : Type 1} → statement M
+zone-spec =
+    tie.close
+    (tie.spec
+    Inv-loop
+    μ-loop
+    (λ c. search needs)
+    (λ c κs. search needs)
+    (λ c. search needs)
+    (λ c. search needs)
+    (λ c. search needs)
+    (λ c κs. search needs)
+    (λ c. search needs)
+    (λ c. search needs)
+    (λ c. search needs)
+    (λ c. search needs))
