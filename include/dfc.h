@@ -73,9 +73,9 @@ enum { DFC_SOURCE = 0, DFC_TARGET = 1 };
  *        35    7     33  the string: how many symbols (0 to 32), then 32 places, as ASCII 0-9 * #
  *        71    8     33  the list: how many types (0 to 32), then 32 places
  *       107  127      0
- * What stands in a place past a string's or list's length does not count, nor does the list's field at all where the route is not a list; setups made
- * here have 0 there.
- * Bytes that are not of this form, or not 110, are refused where a setup that is not well formed would be: with 5, or with an earlier refusal that applies. */
+ * What stands in a place past a string's or list's length does not count, nor does the list's body where the route is not a list; its tag and
+ * length still do. Setups made here have 0 there.
+ * Anything else counts as a malformed setup: refusal 5, unless an earlier refusal applies. */
 #define DFC_SETUP 110
 
 typedef struct {
