@@ -35,30 +35,34 @@ OPERATION(route, dfc_route(file, file_size, sent, DFC_SETUP, list[0], 32, list[1
 /* ---- calls: a row of 1,024 in which one record is free, the first or the last */
 
 #define RECORDS 1024
-static uint8_t row_of[2][RECORDS * DFC_CALL]; /* ours, the peer's */
+static uint8_t our_row[RECORDS * DFC_CALL];
+static peer_call peers_row[RECORDS];
 static size_t free_record;
+
+static void ours_state(size_t k, uint8_t caller, uint8_t callee) { our_row[k * DFC_CALL] = caller, our_row[k * DFC_CALL + 1] = callee; }
+static void peers_state(size_t k, uint8_t caller, uint8_t callee) { peers_row[k].state[0] = caller, peers_row[k].state[1] = callee; }
+static uint64_t ours_use(size_t k) { return (uint64_t)our_row[k * DFC_CALL + 2] << 8 | our_row[k * DFC_CALL + 3]; }
+static uint64_t peers_use(size_t k) { return peers_row[k].use; }
 
 static void all_taken_but(size_t r) {
     free_record = r;
-    for (int side = 0; side < 2; side++) {
-        memset(row_of[side], 0, sizeof row_of[side]);
-        for (size_t k = 0; k < RECORDS; k++)
-            if (k != r) row_of[side][k * DFC_CALL] = row_of[side][k * DFC_CALL + 1] = 3;
-    }
+    dfc_clear(our_row, sizeof our_row), peer_clear(peers_row, RECORDS);
+    for (size_t k = 0; k < RECORDS; k++)
+        if (k != r) ours_state(k, 3, 3), peers_state(k, 3, 3);
 }
 
 /* Placing leaves the record taken; its two states are put back, by both sides alike. */
-#define CALLS(name, side, n)                                                                                                               \
+#define CALLS(name, side, row, row_length)                                                                                                 \
     static dfc_placed name##_placed(void) {                                                                                                \
-        return side##_place(file, file_size, sent, DFC_SETUP, row_of[n], sizeof row_of[n], list[0], 32, list[1], 32, made);                \
+        return side##_place(file, file_size, sent, DFC_SETUP, row, row_length, list[0], 32, list[1], 32, made);                            \
     }                                                                                                                                      \
     static void name##_place(void) {                                                                                                       \
         dfc_placed p = name##_placed();                                                                                                    \
-        row_of[n][p.record_number * DFC_CALL] = row_of[n][p.record_number * DFC_CALL + 1] = 0;                                             \
+        name##_state(p.record_number, 0, 0);                                                                                               \
         sink += p.record_number;                                                                                                           \
     }                                                                                                                                      \
     static uint64_t name##_do(dfc_placed p, uint8_t kind, uint8_t by, uint8_t signal, uint8_t tunnel, uint8_t code) {                      \
-        dfc_commanded c = side##_command(row_of[n], sizeof row_of[n], p.record_number, (uint16_t)p.use_number, kind, by, signal, tunnel, code); \
+        dfc_commanded c = side##_command(row, row_length, p.record_number, (uint16_t)p.use_number, kind, by, signal, tunnel, code);        \
         if (c.number) printf("refused: %llu\n", (unsigned long long)c.number), exit(1);                                                    \
         return c.signal;                                                                                                                   \
     }                                                                                                                                      \
@@ -73,12 +77,11 @@ static void all_taken_but(size_t r) {
     }                                                                                                                                      \
     static void name##_life(void) { name##_talk(name##_placed()); }                                                                        \
     static void name##_commands(void) {                                                                                                    \
-        uint8_t *b = row_of[n] + free_record * DFC_CALL;                                                                                   \
-        b[0] = 1, b[1] = 2;                                                                                                                \
-        name##_talk((dfc_placed){.record_number = free_record, .use_number = (uint64_t)b[2] << 8 | b[3]});                                 \
+        name##_state(free_record, 1, 2);                                                                                                   \
+        name##_talk((dfc_placed){.record_number = free_record, .use_number = name##_use(free_record)});                                    \
     }
-CALLS(ours, dfc, 0)
-CALLS(peers, peer, 1)
+CALLS(ours, dfc, our_row, sizeof our_row)
+CALLS(peers, peer, peers_row, RECORDS)
 
 /* ---- the stack: a call on a painted stack of its own */
 

@@ -1,4 +1,6 @@
-/* drive SEED CASES: the archive and the peer on the same random and damaged inputs; every answer and every lent byte compared.
+/* drive SEED CASES [FAULT]: the archive and the peer on the same random and damaged inputs; every answer and every lent byte compared.
+ * The peer keeps calls in structs and never sees a record's bytes. So each step of a record is compared twice: the record that is read from our bytes with the
+ * peer's struct, and our bytes with what dfc.h says that the step makes of the bytes before, which stands here a second time.
  * Prints the first difference whole and ends with 1; else one line and 0. */
 #include "peer.h"
 #include "random.h"
@@ -9,14 +11,17 @@ enum { CHECK, WRITE, ZONE, NEW, CONTINUED, REVERSED, ROUTE, PLACE, PORT_PLACE, C
 static const char *const name[OPERATIONS] = {"check", "write", "zone",       "new",     "continued",    "reversed",
                                              "route", "place", "port place", "command", "port command", "clear"};
 
-/* each side's row and port: the same before a case and compared after it, with junk behind what is lent */
-#define ROW_MAX (1030 * DFC_CALL)
+/* a row and a port, with junk behind what is lent: ours, and as they have to be; and the peer's */
+#define RECORDS_MAX 1030
+#define ROW_MAX (RECORDS_MAX * DFC_CALL)
 #define JUNK 64
 typedef struct {
     uint8_t row[ROW_MAX + JUNK], port[DFC_CALL + JUNK];
-} calls;
-static calls ours_calls, peers_calls, before;
+} lent;
+static lent ours_lent, due;
+static peer_call peers_row[RECORDS_MAX], peers_port;
 static size_t row_size;
+static uint8_t record_before[DFC_CALL];
 
 static uint64_t seed, number, done[OPERATIONS], accepted[OPERATIONS];
 static any_plan p;
@@ -44,15 +49,25 @@ static void hex(const char *what, const uint8_t *b, size_t n) {
     printf("\n");
 }
 
-static int on_row(int op) { return op == PLACE || op == COMMAND || op == CLEAR; }
 static int on_port(int op) { return op == PORT_PLACE || op == PORT_COMMAND; }
+static size_t records(void) { return row_size / DFC_CALL; }
 
-static void show(const input *i, const char *who, const output *o, const calls *c) {
+/* The record that a step is about, NULL for none: of the bytes b, and of the peer's. */
+static uint8_t *touched(lent *b, const input *i, const dfc_placed *said) {
+    if (on_port(i->op)) return b->port;
+    size_t n = i->op == COMMAND ? i->record_number : said->record_number;
+    return i->op != CLEAR && n < records() ? b->row + n * DFC_CALL : NULL;
+}
+static peer_call *touched_struct(const input *i, const dfc_placed *said) {
+    if (on_port(i->op)) return &peers_port;
+    return &peers_row[i->op == COMMAND ? i->record_number : said->record_number];
+}
+
+static void show(const input *i, const char *who, const output *o) {
     printf(" %s: number %llu value %llu kind %llu box %llu address %llu record %llu use %llu\n", who, (unsigned long long)o->said.number,
            (unsigned long long)o->said.value, (unsigned long long)o->said.kind, (unsigned long long)o->said.box_number,
            (unsigned long long)o->said.address, (unsigned long long)o->said.record_number, (unsigned long long)o->said.use_number);
-    if (on_row(i->op)) hex("row", c->row, row_size + JUNK);
-    if (on_port(i->op)) hex("port", c->port, sizeof c->port);
+    if (i->op >= PLACE && i->op != PORT_PLACE && i->op != PLACE) return;
     hex("made", o->made, sizeof o->made);
     hex("source list", o->source_list, sizeof o->source_list);
     hex("target list", o->target_list, sizeof o->target_list);
@@ -60,20 +75,39 @@ static void show(const input *i, const char *who, const output *o, const calls *
     if (i->op == WRITE) hex("room", o->room, i->room_size);
 }
 
+static void show_struct(const peer_call *c) {
+    printf("  the peer's record: states %u %u use %u\n", c->state[0], c->state[1], c->use);
+    for (int e = 0; e < 2; e++) {
+        printf("    %u wait for the %s:", c->to[e].count, e ? "callee" : "caller");
+        for (unsigned k = 0; k < 16 && k < c->to[e].count; k++) {
+            peer_signal w = c->to[e].at[(c->to[e].head + k) % 16];
+            printf(" %u.%u.%u", w.kind, w.tunnel, w.code);
+        }
+        printf("\n");
+    }
+}
+
 static int differ(const input *i, const output *ours, const output *peers) {
     printf("DIFFERENCE seed %llu case %llu: %s\n", (unsigned long long)seed, (unsigned long long)number, name[i->op]);
+    show(i, "ours", ours);
+    show(i, "peer", peers);
+    if (i->op >= PLACE) {
+        printf(" row of %zu bytes; record %zu use %u command %u side %u signal %u tunnel %u code %u\n", row_size, i->record_number, i->use_number, i->command,
+               i->of_side, i->signal, i->tunnel, i->code);
+        uint8_t *b = touched(&ours_lent, i, &ours->said);
+        if (b) {
+            hex("record before", record_before, DFC_CALL);
+            hex("record now", b, DFC_CALL);
+            hex("record as it has to be", touched(&due, i, &ours->said), DFC_CALL);
+            show_struct(touched_struct(i, &ours->said));
+        }
+    }
+    if (i->op == COMMAND || i->op == PORT_COMMAND || i->op == CLEAR) return 1;
     printf(" kind %u type %u region %u address %u source %u target %u room %zu lists %zu %zu\n", i->kind, i->type, i->region, i->address,
            i->source, i->target, i->room_size, i->source_size, i->target_size);
     hex("file", file, file_size);
     hex("string", i->string, i->string_size);
     hex("setup", i->in, i->in_size);
-    if (i->op >= PLACE) {
-        printf(" record %zu use %u command %u side %u signal %u tunnel %u code %u\n", i->record_number, i->use_number, i->command, i->of_side, i->signal, i->tunnel, i->code);
-        if (on_row(i->op)) hex("row before", before.row, row_size + JUNK);
-        else hex("port before", before.port, sizeof before.port);
-    }
-    show(i, "ours", ours, &ours_calls);
-    show(i, "peer", peers, &peers_calls);
     return 1;
 }
 
@@ -81,8 +115,9 @@ static dfc_placed of(dfc_answer a) { return (dfc_placed){a.number, a.value, 0, 0
 static dfc_placed of_routed(dfc_routed a) { return (dfc_placed){a.number, a.value, a.kind, a.box_number, a.address, 0, 0}; }
 static dfc_placed of_command(dfc_commanded a) { return (dfc_placed){a.number, a.delivered, a.signal, a.tunnel, a.code, 0, 0}; }
 
-#define SIDE(side)                                                                                                                                                 \
-    static void side##_run(const input *i, output *o, calls *c) {                                                                                                  \
+/* row and port, and the row's size, as each side has them */
+#define SIDE(side, row, row_length, port)                                                                                                                          \
+    static void side##_run(const input *i, output *o) {                                                                                                            \
         switch (i->op) {                                                                                                                                           \
         case CHECK: o->said = of(side##_check(file, file_size)); break;                                                                                            \
         case WRITE: o->said = of(side##_write(file, file_size, o->room, i->room_size)); break;                                                                     \
@@ -100,20 +135,131 @@ static dfc_placed of_command(dfc_commanded a) { return (dfc_placed){a.number, a.
             o->said = of_routed(side##_route(file, file_size, i->in, i->in_size, o->source_list, i->source_size, o->target_list, i->target_size, o->made));        \
             break;                                                                                                                                                 \
         case PLACE:                                                                                                                                                \
-            o->said = side##_place(file, file_size, i->in, i->in_size, c->row, row_size, o->source_list, i->source_size, o->target_list, i->target_size, o->made); \
+            o->said = side##_place(file, file_size, i->in, i->in_size, row, row_length, o->source_list, i->source_size, o->target_list, i->target_size, o->made);  \
             break;                                                                                                                                                 \
         case PORT_PLACE:                                                                                                                                           \
-            o->said = side##_port_place(file, file_size, i->in, i->in_size, c->port, o->source_list, i->source_size, o->target_list, i->target_size, o->made);     \
+            o->said = side##_port_place(file, file_size, i->in, i->in_size, port, o->source_list, i->source_size, o->target_list, i->target_size, o->made);        \
             break;                                                                                                                                                 \
         case COMMAND:                                                                                                                                              \
-            o->said = of_command(side##_command(c->row, row_size, i->record_number, i->use_number, i->command, i->of_side, i->signal, i->tunnel, i->code));           \
+            o->said = of_command(side##_command(row, row_length, i->record_number, i->use_number, i->command, i->of_side, i->signal, i->tunnel, i->code));         \
             break;                                                                                                                                                 \
-        case PORT_COMMAND: o->said = of_command(side##_port_command(c->port, i->command, i->of_side, i->signal, i->tunnel, i->code)); break;                          \
-        default: side##_clear(c->row, row_size), o->said.number = 0;                                                                                               \
+        case PORT_COMMAND: o->said = of_command(side##_port_command(port, i->command, i->of_side, i->signal, i->tunnel, i->code)); break;                          \
+        default: side##_clear(row, row_length), o->said.number = 0;                                                                                                \
         }                                                                                                                                                          \
     }
-SIDE(dfc)
-SIDE(peer)
+SIDE(dfc, ours_lent.row, row_size, ours_lent.port)
+SIDE(peer, peers_row, records(), &peers_port)
+
+/* ---- a record's bytes, as dfc.h has them */
+
+static int carries_nothing(uint8_t kind) { return kind == DFC_UPACK || kind == DFC_TEARDOWN || kind == DFC_DOWNACK; }
+
+static peer_signal signal_read(const uint8_t *b) {
+    peer_signal w = {b[0], b[1], b[2]};
+    if (w.kind == 0) w.kind = DFC_UPACK;
+    if (w.kind == 1 || w.kind > DFC_DOWNACK) w.kind = DFC_DTMF, w.code = 255;
+    if (carries_nothing(w.kind)) w.tunnel = 0;
+    if (w.kind != DFC_DTMF && w.kind != DFC_SPECIAL) w.code = 0;
+    return w;
+}
+
+static uint8_t state_read(uint8_t b) { return b > PEER_UNLINKING ? PEER_UNLINKING : b; }
+
+/* A record for the peer. Its rings begin anywhere, so that they come round often. */
+static void read_record(rng *r, const uint8_t *b, peer_call *c) {
+    c->state[0] = state_read(b[0]), c->state[1] = state_read(b[1]);
+    c->use = (uint16_t)(b[2] << 8 | b[3]);
+    for (int e = 0; e < 2; e++) {
+        const uint8_t *q = b + (e ? 53 : 4);
+        c->to[e].head = (uint8_t)below(r, 16), c->to[e].count = q[0];
+        for (unsigned k = 0; k < 16 && k < q[0]; k++) c->to[e].at[(c->to[e].head + k) % 16] = signal_read(q + 1 + 3 * k);
+    }
+}
+
+/* Whether the record of these bytes is the peer's: states, use number, and what waits, in order. */
+static int same_record(const uint8_t *b, const peer_call *c) {
+    if (state_read(b[0]) != c->state[0] || state_read(b[1]) != c->state[1] || (b[2] << 8 | b[3]) != c->use) return 0;
+    for (int e = 0; e < 2; e++) {
+        const uint8_t *q = b + (e ? 53 : 4);
+        if (q[0] != c->to[e].count) return 0;
+        for (unsigned k = 0; k < 16 && k < q[0]; k++) {
+            peer_signal x = signal_read(q + 1 + 3 * k), y = c->to[e].at[(c->to[e].head + k) % 16];
+            if (x.kind != y.kind || x.tunnel != y.tunnel || x.code != y.code) return 0;
+        }
+    }
+    return 1;
+}
+
+static int same_row(void) {
+    for (size_t k = 0; k < records(); k++)
+        if (!same_record(ours_lent.row + k * DFC_CALL, &peers_row[k])) return 0;
+    return 1;
+}
+
+/* ---- the bytes after a step, by the bytes before */
+
+static void due_sent(uint8_t *q, uint8_t kind, uint8_t tunnel, uint8_t code) {
+    uint8_t *at = q + 1 + 3 * q[0];
+    at[0] = kind, at[1] = tunnel, at[2] = code;
+    q[0]++;
+}
+
+/* An accepted command on the record b. */
+static void due_command(uint8_t *b, const input *i) {
+    int me = i->command <= DFC_UNOBTAINABLE || i->of_side != 0;
+    uint8_t *in = b + (me ? 53 : 4), *out = b + (me ? 4 : 53), first = in[1];
+    switch (i->command) {
+    case DFC_ACCEPT:
+        b[me] = 3;
+        due_sent(out, DFC_UPACK, 0, 0);
+        break;
+    case DFC_BUSY:
+    case DFC_UNOBTAINABLE:
+        b[me] = 4;
+        due_sent(out, DFC_UPACK, 0, 0), due_sent(out, i->command == DFC_BUSY ? DFC_UNAVAIL : DFC_UNKNOWN, 0, 0), due_sent(out, DFC_TEARDOWN, 0, 0);
+        break;
+    case DFC_SEND:
+        b[me] = 3;
+        due_sent(out, i->signal, i->tunnel, i->signal == DFC_DTMF || i->signal == DFC_SPECIAL ? i->code : 0);
+        break;
+    case DFC_SEND_TEARDOWN:
+        b[me] = 4;
+        due_sent(out, DFC_TEARDOWN, 0, 0);
+        break;
+    default:
+        memmove(in + 1, in + 4, 45);
+        if (!FAULT(17)) memset(in + 46, 0, 3);
+        in[0]--;
+        if (first == DFC_TEARDOWN) b[me] = b[me] == 3 ? 0 : 4, due_sent(out, DFC_DOWNACK, 0, 0);
+        else if (first == DFC_DOWNACK) b[me] = 0;
+        else if (first == DFC_UPACK || first == 0) b[me] = 3;
+        else if (b[me] != 3) b[me] = 4;
+    }
+    if (FAULT(18))
+        for (uint8_t *q = b + 4; q <= b + 53; q += 49) memset(q + 1 + 3 * q[0], 0, 3 * (16u - q[0]));
+}
+
+/* The bytes of a record in which a call was placed. */
+static void due_placed(uint8_t *b) {
+    unsigned use = (b[2] << 8 | b[3]) + 1u;
+    memset(b, 0, DFC_CALL);
+    b[0] = 1, b[1] = 2;
+    w2(b + 2, use & 65535);
+}
+
+/* Whether a step that was answered so left every byte as it has to be, and the peer's records. */
+static int bytes_agree(const input *i, const dfc_placed *said) {
+    uint8_t *b = touched(&due, i, said);
+    if (said->number == 0) {
+        if (i->op == CLEAR) memset(due.row, 0, records() * DFC_CALL);
+        else if (i->op == COMMAND || i->op == PORT_COMMAND) due_command(b, i);
+        else due_placed(b);
+    }
+    if (on_port(i->op)) return memcmp(ours_lent.port, due.port, sizeof due.port) == 0 && same_record(ours_lent.port, &peers_port);
+    if (memcmp(ours_lent.row, due.row, row_size + JUNK) != 0) return 0;
+    /* of a long row the other records are compared when it is given up */
+    return records() <= 4 || i->op == CLEAR ? same_row() : !b || same_record(touched(&ours_lent, i, said), touched_struct(i, said));
+}
 
 /* ---- random inputs */
 
@@ -142,57 +288,108 @@ static size_t some_string(rng *r, uint8_t *s) {
     return n;
 }
 
+/* somebody's address, where the plan has anybody */
+static uint32_t some_customer(rng *r) { return p.count ? p.sub[below(r, p.count)].address : 200; }
+
+static uint8_t some_member(rng *r, uint32_t set) {
+    uint32_t t = below(r, 32);
+    while (set && !(set >> t & 1)) t = (t + 1) % 32;
+    return (uint8_t)t;
+}
+
+static uint32_t r4(const uint8_t *b) { return (uint32_t)b[0] << 24 | (uint32_t)b[1] << 16 | (uint32_t)b[2] << 8 | b[3]; }
+
+/* A setup is built in place, by the offsets of dfc.h: */
+enum { REGION = 3, SOURCE = 7, TARGET = 14, ROUTE_AT = 21, PLACING = 25, OUTER = 30, STRING = 38, LIST = 74 };
+
+static void setup_heads(uint8_t *b) {
+    static const struct { uint8_t at, tag, length; } head[9] = {{0, 1, 1}, {4, 2, 4}, {11, 3, 4}, {18, 4, 1}, {22, 5, 2}, {27, 6, 5}, {35, 7, 33}, {71, 8, 33}, {107, 127, 0}};
+    memset(b, 0, DFC_SETUP);
+    for (int k = 0; k < 9; k++) b[head[k].at] = head[k].tag, w2(b + head[k].at + 1, head[k].length);
+}
+
 /* setups that were made or received under this plan */
 static uint8_t pool[16][DFC_SETUP];
 static unsigned pooled;
 
-static size_t some_setup(rng *r, uint8_t *b) {
-    size_t n = DFC_SETUP;
-    if (pooled && !chance(r, 4)) memcpy(b, pool[below(r, pooled < 16 ? pooled : 16)], DFC_SETUP);
-    else {
-        uint8_t *at = b;
-        memset(b, 0, DFC_SETUP);
-        *at++ = 1, at = w2(at, 1), *at++ = (uint8_t)(1 + below(r, 2));
-        *at++ = 2, at = w4(w2(at, 4), some_address(r));
-        *at++ = 3, at = w4(w2(at, 4), some_address(r));
-        *at++ = 4, at = w2(at, 1), *at++ = (uint8_t)(1 + below(r, 3));
-        *at++ = 5, at = w2(at, 2), *at = (uint8_t)below(r, 2), at[1] = at[0] ? (uint8_t)below(r, 34) : 0, at += 2;
-        *at++ = 6, at = w2(at, 5), *at = (uint8_t)below(r, 2), w4(at + 1, at[0] ? some_address(r) : 0), at += 5;
-        *at++ = 7, at = w2(at, 33), at[0] = 0;
-        uint8_t s[48];
-        size_t k = some_string(r, s);
-        at[0] = (uint8_t)k, memcpy(at + 1, s, k < 32 ? k : 32), at += 33;
-        *at++ = 8, at = w2(at, 33), at[0] = (uint8_t)below(r, chance(r, 4) ? 40 : 3);
-        for (int j = 1; j < 33; j++) at[j] = (uint8_t)below(r, 33);
-        at += 33;
-        *at++ = 127, w2(at, 0);
+/* well formed, if the plan is sound and has a subscriber; to be continued it has a list */
+static void good_setup(rng *r, uint8_t *b, int op) {
+    static const char digits[] = "0123456789*#";
+    setup_heads(b);
+    if (chance(r, 4)) /* what stands past a length does not count */
+        for (int k = 1; k < 33; k++) b[STRING + k] = (uint8_t)(rnd(r) >> 40), b[LIST + k] = (uint8_t)below(r, 33);
+    b[REGION] = (uint8_t)(1 + below(r, 2));
+    uint8_t *routing = b + (b[REGION] == 1 ? SOURCE : TARGET), *other = b + (b[REGION] == 1 ? TARGET : SOURCE);
+    w4(routing, some_customer(r)), w4(other, chance(r, 4) ? 0 : some_customer(r));
+    b[ROUTE_AT] = (uint8_t)(op == CONTINUED ? 3 : 1 + below(r, 3));
+    if (b[ROUTE_AT] == 2 && !p.set[2]) b[ROUTE_AT] = 1;
+    if (b[ROUTE_AT] == 2) b[PLACING] = 1, b[PLACING + 1] = some_member(r, p.set[2]);
+    if (b[ROUTE_AT] == 3) {
+        uint8_t types[32];
+        dfc_answer zone = peer_zone(file, file_size, (uint8_t)(b[REGION] - 1), r4(routing), types);
+        uint32_t n = zone.number ? 0 : (uint32_t)zone.value, cut = below(r, n + 1);
+        b[LIST] = (uint8_t)(n - cut);
+        memcpy(b + LIST + 1, types + cut, n - cut);
     }
-    /* suffixes that are well formed are rare by chance alone */
-    if (chance(r, 6) && p.set[2]) {
-        uint32_t t = below(r, 32);
-        while (!(p.set[2] >> t & 1)) t = (t + 1) % 32;
-        b[21] = 2, b[25] = 1, b[26] = (uint8_t)t;
+    if (b[REGION] == 1 && chance(r, 2)) b[OUTER] = 1, w4(b + OUTER + 1, some_customer(r));
+    uint32_t of = below(r, 4), symbols = chance(r, 4) ? 12 : 10;
+    if (of < 2) {
+        char said[16];
+        b[STRING] = (uint8_t)snprintf(said, sizeof said, "%s%u", of ? "*21" : "", some_customer(r));
+        memcpy(b + STRING + 1, said, b[STRING]);
+    } else if (of < 3) {
+        b[STRING] = (uint8_t)(chance(r, 2) ? 8 + below(r, 4) : below(r, 33));
+        for (int k = 1; k <= b[STRING]; k++) b[STRING + k] = (uint8_t)digits[below(r, symbols)];
     }
-    if (chance(r, 4))
+}
+
+static void any_setup(rng *r, uint8_t *b) {
+    uint8_t s[48];
+    size_t k = some_string(r, s);
+    setup_heads(b);
+    b[REGION] = (uint8_t)(1 + below(r, 2)), b[ROUTE_AT] = (uint8_t)(1 + below(r, 3));
+    w4(b + SOURCE, some_address(r)), w4(b + TARGET, some_address(r));
+    if (chance(r, 2)) b[PLACING] = 1, b[PLACING + 1] = (uint8_t)below(r, 34);
+    if (chance(r, 2)) b[OUTER] = 1, w4(b + OUTER + 1, some_address(r));
+    b[STRING] = (uint8_t)k, memcpy(b + STRING + 1, s, k < 32 ? k : 32);
+    b[LIST] = (uint8_t)below(r, chance(r, 4) ? 40 : 3);
+    for (int j = 1; j < 33; j++) b[LIST + j] = (uint8_t)below(r, 33);
+}
+
+static size_t some_setup(rng *r, uint8_t *b, int op) {
+    uint32_t k = below(r, 16);
+    if (k < 1) any_setup(r, b);
+    else if (k < 5 && pooled && op != CONTINUED) memcpy(b, pool[below(r, pooled < 16 ? pooled : 16)], DFC_SETUP);
+    else good_setup(r, b, op);
+    /* a list that is a suffix, or the other way round */
+    if (chance(r, 24) && p.set[2]) b[ROUTE_AT] = 2, b[PLACING] = 1, b[PLACING + 1] = some_member(r, p.set[2]);
+    if (chance(r, 12))
         switch (below(r, 12)) {
-        case 0: b[3] = (uint8_t)below(r, 4); break;
-        case 1: w4(b + 7, some_address(r)); break;
-        case 2: w4(b + 14, some_address(r)); break;
-        case 3: b[21] = (uint8_t)below(r, 5); break;
-        case 4: b[25] = (uint8_t)below(r, 3); break;
-        case 5: b[26] = (uint8_t)below(r, 40); break;
-        case 6: b[30] = (uint8_t)below(r, 3); break;
-        case 7: w4(b + 31, some_address(r)); break;
-        case 8: b[38] = (uint8_t)below(r, 40); break;
-        case 9: b[74] = (uint8_t)below(r, 40); break;
-        case 10: b[75 + below(r, 32)] = (uint8_t)below(r, 40); break;
+        case 0: b[REGION] = (uint8_t)below(r, 4); break;
+        case 1: w4(b + SOURCE, some_address(r)); break;
+        case 2: w4(b + TARGET, some_address(r)); break;
+        case 3: b[ROUTE_AT] = (uint8_t)below(r, 5); break;
+        case 4: b[PLACING] = (uint8_t)below(r, 3); break;
+        case 5: b[PLACING + 1] = (uint8_t)below(r, 40); break;
+        case 6: b[OUTER] = (uint8_t)below(r, 3); break;
+        case 7: w4(b + OUTER + 1, some_address(r)); break;
+        case 8: b[STRING] = (uint8_t)below(r, 40); break;
+        case 9: b[LIST] = (uint8_t)below(r, 40); break;
+        case 10: b[LIST + 1 + below(r, 32)] = (uint8_t)below(r, 40); break;
         default: b[below(r, DFC_SETUP)] = (uint8_t)rnd(r);
         }
-    if (chance(r, 40)) n = below(r, DFC_SETUP + 4);
-    return n;
+    return chance(r, 64) ? below(r, DFC_SETUP + 4) : DFC_SETUP;
 }
 
 /* ---- random calls */
+
+static void some_bytes(rng *r, uint8_t *b, size_t n) {
+    for (; n >= 8; b += 8, n -= 8) {
+        uint64_t x = rnd(r);
+        memcpy(b, &x, 8);
+    }
+    while (n--) *b++ = (uint8_t)(rnd(r) >> 40);
+}
 
 /* a record: cleared, all junk, or with junk in each of its fields that is seldom far out */
 static void some_record(rng *r, uint8_t *b) {
@@ -201,99 +398,136 @@ static void some_record(rng *r, uint8_t *b) {
         if (chance(r, 4)) b[2] = b[3] = 255;
         return;
     }
-    for (int k = 0; k < DFC_CALL; k++) b[k] = (uint8_t)(rnd(r) >> 40);
+    some_bytes(r, b, DFC_CALL);
     if (chance(r, 8)) return;
     b[0] = (uint8_t)below(r, 6), b[1] = (uint8_t)below(r, 6);
     for (int q = 4; q <= 53; q += 49) {
         b[q] = (uint8_t)(chance(r, 2) ? below(r, 4) : 12 + below(r, 6));
-        for (int k = 1; k < 49; k += 3) b[q + k] = (uint8_t)below(r, 10), b[q + k + 1] = (uint8_t)(chance(r, 2) ? 0 : below(r, 3)), b[q + k + 2] = (uint8_t)below(r, 14);
-        if (chance(r, 4)) b[q + 1] = chance(r, 2) ? DFC_TEARDOWN : DFC_DOWNACK;
+        for (int k = 1; k < 49; k += 3) {
+            b[q + k] = (uint8_t)below(r, DFC_DOWNACK + 2), b[q + k + 1] = (uint8_t)(chance(r, 2) ? 0 : below(r, 3)), b[q + k + 2] = (uint8_t)below(r, 14);
+            if (chance(r, 2)) b[q + k] = (uint8_t)(DFC_UNKNOWN + below(r, 6)); /* what a linked end may take */
+        }
+        if (chance(r, 4)) b[q + 1] = chance(r, 2) ? DFC_TEARDOWN : chance(r, 2) ? DFC_UPACK : DFC_DOWNACK;
     }
 }
 
 static uint32_t sends; /* of 8 commands on this row, so many are sends */
 
+/* A new row and port: junk, cleared, or with a call placed in every other record. */
 static void some_row(rng *r) {
-    uint32_t n = chance(r, 24) ? 1023 + below(r, 3) + below(r, 2) : chance(r, 8) ? 0 : 1 + below(r, 4);
+    uint32_t n = chance(r, 3) ? 1023 + below(r, 3) + below(r, 2) : chance(r, 24) ? 0 : 1 + below(r, 4);
     row_size = n * DFC_CALL + (chance(r, 2) ? 0 : below(r, DFC_CALL));
-    for (size_t k = 0; k < row_size + JUNK; k++) ours_calls.row[k] = (uint8_t)(rnd(r) >> 40);
-    for (size_t k = 0; k < sizeof ours_calls.port; k++) ours_calls.port[k] = (uint8_t)(rnd(r) >> 40);
-    for (size_t k = 0; k < n; k++) some_record(r, ours_calls.row + k * DFC_CALL);
-    some_record(r, ours_calls.port);
-    if (!chance(r, 3)) { /* cleared; and half of the time placed in every other record */
-        memset(ours_calls.row, 0, n * DFC_CALL), memset(ours_calls.port, 0, DFC_CALL);
+    some_bytes(r, ours_lent.row, row_size + JUNK);
+    some_bytes(r, ours_lent.port, sizeof ours_lent.port);
+    if (chance(r, 3)) {
+        for (size_t k = 0; k < n; k++) some_record(r, ours_lent.row + k * DFC_CALL);
+        some_record(r, ours_lent.port);
+    } else {
+        memset(ours_lent.row, 0, n * DFC_CALL), memset(ours_lent.port, 0, DFC_CALL);
         if (chance(r, 2)) {
-            for (size_t k = 0; k < n; k += 2) ours_calls.row[k * DFC_CALL] = 1, ours_calls.row[k * DFC_CALL + 1] = 2;
-            ours_calls.port[0] = 1, ours_calls.port[1] = 2;
+            for (size_t k = 0; k < n; k += 2) ours_lent.row[k * DFC_CALL] = 1, ours_lent.row[k * DFC_CALL + 1] = 2;
+            ours_lent.port[0] = 1, ours_lent.port[1] = 2;
         }
     }
-    memcpy(peers_calls.row, ours_calls.row, row_size + JUNK);
-    memcpy(peers_calls.port, ours_calls.port, sizeof ours_calls.port);
-    sends = below(r, 3) == 0 ? 6 : 2;
+    memcpy(due.row, ours_lent.row, row_size + JUNK);
+    memcpy(due.port, ours_lent.port, sizeof due.port);
+    for (size_t k = 0; k < n; k++) read_record(r, ours_lent.row + k * DFC_CALL, &peers_row[k]);
+    read_record(r, ours_lent.port, &peers_port);
+    sends = chance(r, 3) ? 7 : 3;
 }
 
-static void some_command(rng *r, input *i) {
-    static const uint8_t others[6] = {DFC_ACCEPT, DFC_BUSY, DFC_UNOBTAINABLE, DFC_SEND_TEARDOWN, DFC_DELIVER, DFC_DELIVER};
-    size_t n = row_size / DFC_CALL;
-    i->record_number = chance(r, 16) ? (chance(r, 2) ? n + below(r, 3) : (size_t)rnd(r)) : n ? below(r, (uint32_t)(n < 4 ? n : chance(r, 2) ? 4 : n)) : 0;
-    const uint8_t *b = i->record_number < n ? ours_calls.row + i->record_number * DFC_CALL : ours_calls.row;
-    i->use_number = (uint16_t)(chance(r, 16) ? below(r, 65536) : (uint32_t)b[2] << 8 | b[3]);
-    i->command = (uint8_t)(chance(r, 16) ? rnd(r) >> 40 : below(r, 8) < sends ? DFC_SEND : others[below(r, 6)]);
+static int is_free(const peer_call *c) { return c->state[0] == PEER_IDLE && c->state[1] == PEER_IDLE; }
+
+/* Whether every record of the row is free (all 1), or none is (all 0). */
+static int free_records(int all) {
+    for (size_t k = 0; k < records(); k++)
+        if (is_free(&peers_row[k]) != all) return 0;
+    return 1;
+}
+
+static void any_command(rng *r, input *i) {
+    static const uint8_t others[16] = {DFC_ACCEPT,  DFC_ACCEPT,  DFC_ACCEPT,  DFC_BUSY,    DFC_UNOBTAINABLE, DFC_SEND_TEARDOWN, DFC_SEND_TEARDOWN, DFC_DELIVER,
+                                       DFC_DELIVER, DFC_DELIVER, DFC_DELIVER, DFC_DELIVER, DFC_DELIVER,      DFC_DELIVER,       DFC_DELIVER,       DFC_DELIVER};
+    i->command = (uint8_t)(chance(r, 24) ? chance(r, 2) ? 6 + below(r, 3) : rnd(r) >> 40 : below(r, 8) < sends ? DFC_SEND : others[below(r, 16)]);
     i->of_side = (uint8_t)(chance(r, 16) ? rnd(r) >> 40 : below(r, 2));
-    if (chance(r, 2)) { /* what the states allow */
-        const uint8_t *s = i->op == PORT_COMMAND ? ours_calls.port : b;
-        if (s[1] == 2 && chance(r, 2)) i->command = (uint8_t)below(r, 3);
-        else if (s[0] == 3 || s[1] == 3) i->of_side = s[0] != 3 || (s[1] == 3 && chance(r, 2)), i->command = chance(r, 8) ? DFC_SEND_TEARDOWN : below(r, 8) < sends ? DFC_SEND : DFC_DELIVER;
-        else i->command = DFC_DELIVER, i->of_side = s[4] == 0;
+    i->signal = (uint8_t)(chance(r, 16) ? chance(r, 2) ? below(r, 20) : rnd(r) >> 40 : DFC_UNKNOWN + below(r, 6));
+    i->tunnel = (uint8_t)(i->signal < DFC_DTMF && !chance(r, 16) ? 0 : chance(r, 2) ? below(r, 3) : rnd(r) >> 40);
+    i->code = (uint8_t)(!chance(r, 8) ? below(r, 12) : rnd(r) >> 40);
+}
+
+/* For three of four commands one that the peer would accept is looked for; the others are what comes. */
+static void some_command(rng *r, input *i) {
+    size_t n = records();
+    for (int tries = 0; tries < 6; tries++) { /* a record that is not free, if there is one */
+        i->record_number = n ? below(r, (uint32_t)(n < 4 ? n : chance(r, 2) ? 4 : n)) : 0;
+        if (n && !is_free(&peers_row[i->record_number])) break;
     }
-    i->signal = (uint8_t)(chance(r, 16) ? rnd(r) >> 40 : DFC_UNKNOWN + below(r, 6));
-    i->tunnel = (uint8_t)(i->signal < DFC_DTMF && !chance(r, 8) ? 0 : chance(r, 2) ? below(r, 3) : rnd(r) >> 40);
-    i->code = (uint8_t)(chance(r, 2) ? below(r, 14) : rnd(r) >> 40);
+    if (chance(r, 24)) i->record_number = chance(r, 2) ? n + below(r, 3) : (size_t)rnd(r);
+    const peer_call *c = i->op == PORT_COMMAND ? &peers_port : i->record_number < n ? &peers_row[i->record_number] : NULL;
+    i->use_number = (uint16_t)(chance(r, 24) || !c ? below(r, 65536) : c->use);
+    int tries = c && !chance(r, 4) ? 12 : 0;
+    do {
+        any_command(r, i);
+        if (tries == 0) break;
+        peer_call trial = *c;
+        if (peer_port_command(&trial, i->command, i->of_side, i->signal, i->tunnel, i->code).number == 0) break;
+    } while (tries-- > 0);
 }
 
 static void some_input(rng *r, input *i) {
     memset(i, 0, sizeof *i);
     uint32_t k = below(r, 32);
-    i->op = k < 1 ? CHECK : k < 2 ? WRITE : k < 4 ? ZONE : k < 7 ? NEW : k < 10 ? CONTINUED : k < 12 ? REVERSED : k < 16 ? ROUTE : k < 20 ? PLACE : k < 21 ? PORT_PLACE
-          : k < 28 ? COMMAND : chance(r, 32) ? CLEAR : PORT_COMMAND;
+    i->op = k < 1 ? CHECK : k < 2 ? WRITE : k < 3 ? ZONE : k < 5 ? NEW : k < 8 ? CONTINUED : k < 10 ? REVERSED : k < 13 ? ROUTE : k < 16 ? PLACE : k < 18 ? PORT_PLACE
+          : k < 26 ? COMMAND : chance(r, 64) ? CLEAR : PORT_COMMAND;
+    if (i->op == REVERSED && !p.set[2] && !chance(r, 8)) i->op = CONTINUED; /* nothing could be reversed */
+    /* calls are mostly placed where a record is free, and commanded where one is taken */
+    if (i->op == PLACE && free_records(0) && !chance(r, 4)) i->op = COMMAND;
+    if (i->op == COMMAND && free_records(1) && !chance(r, 4)) i->op = PLACE;
+    if ((i->op == PORT_PLACE) != is_free(&peers_port) && on_port(i->op) && !chance(r, 4)) i->op = i->op == PORT_PLACE ? PORT_COMMAND : PORT_PLACE;
     if (i->op == COMMAND || i->op == PORT_COMMAND) return some_command(r, i);
     i->region = (uint8_t)(chance(r, 8) ? rnd(r) : below(r, 2));
-    i->kind = (uint8_t)(chance(r, 8) ? below(r, 7) : i->op == NEW ? below(r, 3) : 0);
-    i->type = (uint8_t)below(r, chance(r, 8) ? 256 : 32);
-    if (i->op == REVERSED && p.set[2] && !chance(r, 8))
-        while (!(p.set[2] >> i->type % 32 & 1)) i->type = (uint8_t)((i->type + 1) % 32);
-    else if (p.set[0] && !chance(r, 8))
-        while (!(p.set[0] >> i->type % 32 & 1)) i->type = (uint8_t)((i->type + 1) % 32);
-    i->address = some_address(r);
+    i->kind = (uint8_t)(chance(r, 16) ? below(r, 7) : i->op == NEW ? below(r, 3) : 0);
+    i->type = chance(r, 24) ? (uint8_t)rnd(r) : some_member(r, i->op == REVERSED && !chance(r, 16) ? p.set[2] : p.set[0]);
+    i->address = chance(r, 16) ? some_address(r) : some_customer(r);
     if (i->op == NEW && i->kind && p.count && !chance(r, 8)) { /* somebody of that kind, if there is one */
         uint32_t k = below(r, p.count);
         for (unsigned n = 0; n < p.count && p.sub[k].kind != i->kind; n++) k = (k + 1) % p.count;
         i->address = p.sub[k].address;
     }
-    i->source = chance(r, 2) ? 0 : some_address(r);
-    i->target = chance(r, 2) ? 0 : some_address(r);
+    i->source = chance(r, 2) ? 0 : chance(r, 8) ? some_address(r) : some_customer(r);
+    i->target = chance(r, 2) ? 0 : chance(r, 8) ? some_address(r) : some_customer(r);
     i->string_size = some_string(r, i->string);
-    i->in_size = some_setup(r, i->in);
-    if (i->op == CONTINUED && !chance(r, 6)) i->address = i->in[3] == 1 ? (uint32_t)i->in[7] << 24 | (uint32_t)i->in[8] << 16 | (uint32_t)i->in[9] << 8 | i->in[10]
-                                                                  : (uint32_t)i->in[14] << 24 | (uint32_t)i->in[15] << 16 | (uint32_t)i->in[16] << 8 | i->in[17];
-    i->room_size = chance(r, 2) ? file_size - (chance(r, 2) && file_size) : below(r, FILE_MAX);
+    i->in_size = some_setup(r, i->in, i->op);
+    if (i->op == CONTINUED && !chance(r, 16)) i->address = r4(i->in + (i->in[REGION] == 1 ? SOURCE : TARGET));
+    if ((i->op == CONTINUED || i->op == REVERSED) && !chance(r, 8)) { /* not the box's own address */
+        uint32_t *given = (i->in[REGION] == 1) == (i->op == CONTINUED) ? &i->source : &i->target;
+        if (*given == i->address) *given = 0;
+    }
+    i->room_size = chance(r, 2) ? file_size - (chance(r, 4) && file_size) : file_size + below(r, FILE_MAX);
     if (i->room_size > FILE_MAX) i->room_size = FILE_MAX;
-    i->source_size = chance(r, 12) ? below(r, 32) : 32 + below(r, 16);
-    i->target_size = chance(r, 12) ? below(r, 32) : 32 + below(r, 16);
+    i->source_size = chance(r, 24) ? below(r, 32) : 32 + below(r, 16);
+    i->target_size = chance(r, 24) ? below(r, 32) : 32 + below(r, 16);
 }
 
 static void some_plan(rng *r) {
     uint32_t k = below(r, 64);
-    random_plan(r, &p, k == 0 ? 256 : k == 1 ? 257 : k < 6 ? below(r, 256) : below(r, 9));
-    if (chance(r, 4)) break_plan(r, &p);
+    random_plan(r, &p, k == 0 ? 256 : k == 1 ? 257 : k < 6 ? below(r, 256) : k < 8 ? 0 : 1 + below(r, 9));
+    if (chance(r, 8)) break_plan(r, &p);
     memset(file, 0, sizeof file);
     file_size = plan_bytes(&p, file);
-    if (chance(r, 5)) file_size = damage(r, file, file_size);
+    if (chance(r, 16)) file_size = damage(r, file, file_size);
     pooled = 0;
 }
 
+#ifdef PEER_FAULTS
+int peer_fault;
+#endif
+
 int main(int argc, char **argv) {
-    if (argc != 3) return fprintf(stderr, "usage: drive SEED CASES\n"), 2;
+    if (argc < 3) return fprintf(stderr, "usage: drive SEED CASES [FAULT]\n"), 2;
+#ifdef PEER_FAULTS
+    if (argc > 3) peer_fault = atoi(argv[3]);
+#endif
     seed = strtoull(argv[1], NULL, 10);
     uint64_t cases = strtoull(argv[2], NULL, 10);
     rng r = {seed * 0x9E3779B97F4A7C15ull + 1};
@@ -301,22 +535,22 @@ int main(int argc, char **argv) {
     for (unsigned left = 0, calls_left = 0; number < cases; number++, left--, calls_left--) {
         input i;
         if (left == 0) some_plan(&r), left = 16;
-        if (calls_left == 0) some_row(&r), calls_left = 48;
+        if (calls_left == 0) {
+            if (!same_row()) return printf("DIFFERENCE seed %llu case %llu: another record of the row\n", (unsigned long long)seed, (unsigned long long)number), 1;
+            some_row(&r), calls_left = records() > 4 ? 24 : 256;
+        }
         some_input(&r, &i);
-        /* all that may be lent is junk before; the long room only where it is lent */
-        size_t from = i.op == WRITE ? 0 : offsetof(output, made);
-        for (size_t k = from; k < sizeof ours; k++) ((uint8_t *)&ours)[k] = (uint8_t)(rnd(&r) >> 40);
+        /* all that may be lent is junk before; the long room only where it is lent, and nothing for a command */
+        size_t from = i.op == WRITE ? 0 : i.op < COMMAND ? offsetof(output, made) : sizeof ours;
+        some_bytes(&r, (uint8_t *)&ours + from, sizeof ours - from);
         memcpy((uint8_t *)&peers + from, (uint8_t *)&ours + from, sizeof ours - from);
         ours.said = peers.said = (dfc_placed){99, 99, 99, 99, 99, 99, 99};
-        if (on_row(i.op)) memcpy(before.row, ours_calls.row, row_size + JUNK);
-        if (on_port(i.op)) memcpy(before.port, ours_calls.port, sizeof before.port);
-        dfc_run(&i, &ours, &ours_calls);
-        peer_run(&i, &peers, &peers_calls);
+        dfc_run(&i, &ours);
+        peer_run(&i, &peers);
+        const uint8_t *b = i.op >= PLACE ? touched(&due, &i, &ours.said) : NULL;
+        if (b) memcpy(record_before, b, DFC_CALL);
         if (memcmp(&ours.said, &peers.said, sizeof ours.said) != 0 || memcmp((uint8_t *)&ours + from, (uint8_t *)&peers + from, sizeof ours - from) != 0 ||
-            (on_row(i.op) && memcmp(ours_calls.row, peers_calls.row, row_size + JUNK) != 0) ||
-            (on_port(i.op) && memcmp(ours_calls.port, peers_calls.port, sizeof before.port) != 0) ||
-            (ours.said.number != 0 && on_row(i.op) && memcmp(ours_calls.row, before.row, row_size + JUNK) != 0) ||
-            (ours.said.number != 0 && on_port(i.op) && memcmp(ours_calls.port, before.port, sizeof before.port) != 0))
+            (i.op >= PLACE && !bytes_agree(&i, &ours.said)))
             return differ(&i, &ours, &peers);
         done[i.op]++;
         if (ours.said.number == 0) {

@@ -1,12 +1,7 @@
-/* The peer: document 01's operations as a C programmer would write them. PEER_FAULT seeds one of the faults that host/test has to find. */
+/* The peer: document 01's operations as a C programmer would write them. */
 #include "peer.h"
 #include <stdbool.h>
 #include <string.h>
-
-#ifndef PEER_FAULT
-#define PEER_FAULT 0
-#endif
-#define FAULT(n) (PEER_FAULT == (n))
 
 #define MAX_ADDRESS 999999999u
 #define MAX_SUBSCRIBERS 256
@@ -477,164 +472,141 @@ dfc_routed peer_route(const uint8_t *file, size_t file_size, const uint8_t *sent
 
 /* ---- calls */
 
-enum { IDLE, REQUESTING, WAITING, LINKED, UNLINKING };
+/* Accepted (0) or refused, and nothing handed over. */
+static dfc_commanded said(unsigned number) { return (dfc_commanded){number, 0, 0, 0, 0}; }
+static bool is_free(const peer_call *c) { return c->state[DFC_CALLER] == PEER_IDLE && c->state[DFC_CALLEE] == PEER_IDLE; }
 
-typedef struct {
-    uint8_t signal, tunnel, code;
-} waiting;
-
-typedef struct {
-    uint8_t count;
-    waiting at[16];
-} queue;
-
-/* indexed by DFC_CALLER and DFC_CALLEE: an end's state, and what waits for it */
-typedef struct {
-    uint8_t state[2];
-    uint16_t use;
-    queue to[2];
-} call;
-
-static bool has_tunnel(uint8_t signal) { return signal >= DFC_UNKNOWN; }
-static bool has_code(uint8_t signal) { return signal >= DFC_DTMF; }
-
-static void read_queue(const uint8_t *b, queue *q) {
-    q->count = *b++;
-    for (unsigned i = 0; i < 16; i++, b += 3) {
-        uint8_t signal = b[0] < DFC_SPECIAL ? b[0] : DFC_SPECIAL;
-        q->at[i] = (waiting){signal, has_tunnel(signal) ? b[1] : 0, has_code(signal) ? b[2] : 0};
-    }
+/* 16 is a power of 2, so that a place past the last is the first again. (A ring that does not know its head is fault 11.) */
+static void push(peer_ring *q, uint8_t kind, uint8_t tunnel, uint8_t code) {
+    q->at[((FAULT(11) ? 0 : q->head) + q->count++) % 16] = (peer_signal){kind, tunnel, code};
 }
 
-static void read_call(const uint8_t *b, call *c) {
-    c->state[0] = b[0] < UNLINKING ? b[0] : UNLINKING;
-    c->state[1] = b[1] < UNLINKING ? b[1] : UNLINKING;
-    c->use = (uint16_t)get2(b + 2);
-    read_queue(b + 4, &c->to[DFC_CALLER]);
-    read_queue(b + 53, &c->to[DFC_CALLEE]);
-}
-
-static void write_queue(const queue *q, uint8_t *b) {
-    *b++ = q->count;
-    for (unsigned i = 0; i < 16; i++) *b++ = q->at[i].signal, *b++ = q->at[i].tunnel, *b++ = q->at[i].code;
-}
-
-static void write_call(const call *c, uint8_t *b) {
-    b[0] = c->state[0], b[1] = c->state[1];
-    put2(b + 2, c->use);
-    write_queue(&c->to[DFC_CALLER], b + 4);
-    write_queue(&c->to[DFC_CALLEE], b + 53);
-}
-
-static bool is_free(const uint8_t *b) { return b[0] == IDLE && b[1] == IDLE; }
-
-static bool ordinary(waiting w) {
-    if (w.signal == DFC_SPECIAL) return true;
-    if (w.signal == DFC_DTMF) return w.tunnel > 0 && w.code < 12;
-    return w.signal >= DFC_UNKNOWN && w.signal < DFC_DTMF && w.tunnel == 0;
-}
-
-static void push(queue *q, uint8_t signal, uint8_t tunnel, uint8_t code) { q->at[q->count++] = (waiting){signal, tunnel, code}; }
-
-static waiting pop(queue *q) {
-    waiting first = q->at[0];
-    memmove(&q->at[0], &q->at[1], 15 * sizeof q->at[0]);
-    if (!FAULT(11)) q->at[15] = (waiting){0, 0, 0};
+static peer_signal pop(peer_ring *q) {
+    peer_signal first = q->at[q->head];
+    q->head = (q->head + 1) % 16;
     q->count--;
     return first;
 }
 
-/* The state of an end that is handed this signal; -1 where it can't take it. */
-static int taken(uint8_t state, waiting w) {
-    if (state == REQUESTING) return w.signal == DFC_UPACK ? LINKED : -1;
-    if (state != LINKED && state != UNLINKING) return -1;
-    if (ordinary(w)) return state;
-    if (w.signal == DFC_TEARDOWN) return state == LINKED || FAULT(13) ? IDLE : UNLINKING;
-    if (w.signal == DFC_DOWNACK && state == UNLINKING) return IDLE;
-    return -1;
-}
-
-/* One command on a record: the refusal, or 0, the record as it is next, and what was handed over. */
-static dfc_commanded step(call *c, uint8_t kind, uint8_t side, uint8_t signal, uint8_t tunnel, uint8_t code) {
-    unsigned me = kind <= DFC_UNOBTAINABLE ? DFC_CALLEE : side == 0 ? DFC_CALLER : DFC_CALLEE;
-    queue *out = &c->to[1 - me], *in = &c->to[me];
-    uint8_t *state = &c->state[me];
-    if (in->count > 16 || out->count > 16) return (dfc_commanded){17, 0, 0, 0, 0};
-    if (kind <= DFC_UNOBTAINABLE) {
-        if (*state != WAITING) return (dfc_commanded){12, 0, 0, 0, 0};
-        if (out->count + (kind == DFC_ACCEPT ? 1 : 3) > 16) return (dfc_commanded){17, 0, 0, 0, 0};
-        push(out, DFC_UPACK, 0, 0);
-        *state = LINKED;
-        if (kind != DFC_ACCEPT) {
-            push(out, kind == DFC_BUSY ? DFC_UNAVAIL : DFC_UNKNOWN, 0, 0);
-            push(out, DFC_TEARDOWN, 0, 0);
-            *state = UNLINKING;
-        }
-    } else if (kind == DFC_SEND) {
-        waiting w = {signal, tunnel, 0};
-        if (has_code(w.signal)) w.code = code;
-        if (*state != LINKED) return (dfc_commanded){12, 0, 0, 0, 0};
-        if (!ordinary(w)) return (dfc_commanded){15, 0, 0, 0, 0};
-        if (out->count >= (FAULT(12) ? 15 : 14)) return (dfc_commanded){13, 0, 0, 0, 0};
-        push(out, w.signal, w.tunnel, w.code);
-    } else if (kind == DFC_SEND_TEARDOWN) {
-        if (*state != LINKED) return (dfc_commanded){12, 0, 0, 0, 0};
-        if (out->count == 16) return (dfc_commanded){17, 0, 0, 0, 0};
-        push(out, DFC_TEARDOWN, 0, 0);
-        *state = UNLINKING;
-    } else {
-        if (in->count == 0) return (dfc_commanded){14, 0, 0, 0, 0};
-        bool answered = in->at[0].signal == DFC_TEARDOWN;
-        int next = taken(*state, in->at[0]);
-        if (next < 0 || (answered && out->count == 16)) return (dfc_commanded){17, 0, 0, 0, 0};
-        waiting w = pop(in);
-        if (answered) push(out, DFC_DOWNACK, 0, 0);
-        *state = (uint8_t)next;
-        return (dfc_commanded){0, 1, w.signal, w.tunnel, w.code};
+/* Whether a signal is on document 01's list of ordinary signals. */
+static bool ordinary(uint8_t kind, uint8_t tunnel, uint8_t code) {
+    switch (kind) {
+    case DFC_UNKNOWN:
+    case DFC_AVAIL:
+    case DFC_UNAVAIL:
+    case DFC_NONE: return tunnel == 0;
+    case DFC_DTMF: return tunnel != 0 && code < 12;
+    case DFC_SPECIAL: return true;
+    default: return false;
     }
-    return (dfc_commanded){0, 0, 0, 0, 0};
 }
 
-static dfc_commanded command_at(uint8_t *b, uint8_t kind, uint8_t side, uint8_t signal, uint8_t tunnel, uint8_t code) {
-    call c;
-    read_call(b, &c);
-    dfc_commanded said = step(&c, kind, side, signal, tunnel, code);
-    if (said.number == 0) write_call(&c, b);
-    return said;
+/* The callee's one answer. */
+static dfc_commanded answers(peer_call *c, uint8_t kind) {
+    peer_ring *out = &c->to[DFC_CALLER];
+    if (c->state[DFC_CALLEE] != PEER_WAITING) return said(12);
+    if (out->count + (kind == DFC_ACCEPT ? 1 : 3) > 16) return said(17);
+    push(out, DFC_UPACK, 0, 0);
+    c->state[DFC_CALLEE] = PEER_LINKED;
+    if (kind != DFC_ACCEPT) {
+        push(out, kind == DFC_BUSY ? DFC_UNAVAIL : DFC_UNKNOWN, 0, 0);
+        push(out, DFC_TEARDOWN, 0, 0);
+        c->state[DFC_CALLEE] = PEER_UNLINKING;
+    }
+    return said(0);
 }
 
-void peer_clear(uint8_t *row, size_t row_size) { memset(row, 0, row_size / DFC_CALL * DFC_CALL); }
+static dfc_commanded speaks(peer_call *c, unsigned me, uint8_t kind, uint8_t tunnel, uint8_t code) {
+    peer_ring *out = &c->to[1 - me];
+    if (c->state[me] != PEER_LINKED) return said(12);
+    if (!ordinary(kind, tunnel, code)) return said(15);
+    if (out->count >= (FAULT(12) ? 15 : 14)) return said(13);
+    push(out, kind, tunnel, kind >= DFC_DTMF ? code : 0);
+    return said(0);
+}
 
-dfc_commanded peer_command(uint8_t *row, size_t row_size, size_t record_number, uint16_t use_number, uint8_t kind, uint8_t side, uint8_t signal,
+static dfc_commanded tears(peer_call *c, unsigned me) {
+    peer_ring *out = &c->to[1 - me];
+    if (c->state[me] != PEER_LINKED) return said(12);
+    if (out->count == 16) return said(17);
+    push(out, DFC_TEARDOWN, 0, 0);
+    c->state[me] = PEER_UNLINKING;
+    return said(0);
+}
+
+static dfc_commanded takes(peer_call *c, unsigned me) {
+    peer_ring *in = &c->to[me], *out = &c->to[1 - me];
+    uint8_t state = c->state[me];
+    if (in->count == 0) return said(14);
+    peer_signal w = in->at[in->head];
+    bool talking = state == PEER_LINKED || state == PEER_UNLINKING;
+    switch (w.kind) {
+    case DFC_UPACK:
+        if (state != PEER_REQUESTING) return said(17);
+        state = PEER_LINKED;
+        break;
+    case DFC_TEARDOWN:
+        if (!talking || out->count == 16) return said(17);
+        if (state == PEER_LINKED || FAULT(13)) state = PEER_IDLE;
+        push(out, DFC_DOWNACK, 0, 0);
+        break;
+    case DFC_DOWNACK:
+        if (state != PEER_UNLINKING) return said(17);
+        state = PEER_IDLE;
+        break;
+    default:
+        if (!talking || !ordinary(w.kind, w.tunnel, w.code)) return said(17);
+    }
+    pop(in);
+    c->state[me] = state;
+    return (dfc_commanded){0, 1, w.kind, w.tunnel, w.code};
+}
+
+/* One command on a call. What is no command is refused as a signal that nobody may send. */
+static dfc_commanded step(peer_call *c, uint8_t kind, uint8_t side, uint8_t signal, uint8_t tunnel, uint8_t code) {
+    unsigned me = side == 0 ? DFC_CALLER : DFC_CALLEE;
+    if (c->to[0].count > 16 || c->to[1].count > 16) return said(17);
+    switch (kind) {
+    case DFC_ACCEPT:
+    case DFC_BUSY:
+    case DFC_UNOBTAINABLE: return answers(c, kind);
+    case DFC_SEND: return speaks(c, me, signal, tunnel, code);
+    case DFC_SEND_TEARDOWN: return tears(c, me);
+    case DFC_DELIVER: return takes(c, me);
+    default: return FAULT(16) ? takes(c, me) : said(c->state[me] != PEER_LINKED ? 12 : 15);
+    }
+}
+
+void peer_clear(peer_call *row, size_t records) { memset(row, 0, records * sizeof *row); }
+
+dfc_commanded peer_command(peer_call *row, size_t records, size_t record_number, uint16_t use_number, uint8_t kind, uint8_t side, uint8_t signal,
                            uint8_t tunnel, uint8_t code) {
-    size_t n = row_size / DFC_CALL;
-    if (n > 1024) return (dfc_commanded){16, 0, 0, 0, 0};
-    if (record_number >= n) return (dfc_commanded){10, 0, 0, 0, 0};
-    uint8_t *b = row + record_number * DFC_CALL;
-    if (is_free(b) || (get2(b + 2) != use_number && !FAULT(14))) return (dfc_commanded){10, 0, 0, 0, 0};
-    return command_at(b, kind, side, signal, tunnel, code);
+    if (records > 1024) return said(16);
+    if (record_number >= records) return said(10);
+    peer_call *c = &row[record_number];
+    if (is_free(c) || (c->use != use_number && !FAULT(14))) return said(10);
+    return step(c, kind, side, signal, tunnel, code);
 }
 
-dfc_commanded peer_port_command(uint8_t port[DFC_CALL], uint8_t kind, uint8_t side, uint8_t signal, uint8_t tunnel, uint8_t code) {
-    return command_at(port, kind, side, signal, tunnel, code);
+dfc_commanded peer_port_command(peer_call *port, uint8_t kind, uint8_t side, uint8_t signal, uint8_t tunnel, uint8_t code) {
+    return step(port, kind, side, signal, tunnel, code);
 }
 
-dfc_placed peer_place(const uint8_t *file, size_t file_size, const uint8_t *sent, size_t sent_size, uint8_t *row, size_t row_size,
+dfc_placed peer_place(const uint8_t *file, size_t file_size, const uint8_t *sent, size_t sent_size, peer_call *row, size_t records,
                       uint8_t *source_list, size_t source_size, uint8_t *target_list, size_t target_size, uint8_t received[DFC_SETUP]) {
-    size_t n = row_size / DFC_CALL, r = 0;
-    while (r < n && !is_free(row + r * DFC_CALL)) r++;
-    unsigned later = n > (FAULT(15) ? 1025 : 1024) ? 16 : r == n ? 11 : 0;
+    size_t r = 0;
+    while (r < records && !is_free(&row[r])) r++;
+    unsigned later = records > (FAULT(15) ? 1025 : 1024) ? 16 : r == records ? 11 : 0;
     dfc_routed q = route_unless(later, file, file_size, sent, sent_size, source_list, source_size, target_list, target_size, received);
     if (q.number != 0) return (dfc_placed){q.number, q.value, 0, 0, 0, 0, 0};
-    uint8_t *b = row + r * DFC_CALL;
-    uint16_t use = (uint16_t)(get2(b + 2) + 1);
-    memset(b, 0, DFC_CALL);
-    b[0] = REQUESTING, b[1] = WAITING;
-    put2(b + 2, use);
-    return (dfc_placed){0, q.value, q.kind, q.box_number, q.address, r, use};
+    peer_call *c = &row[r];
+    c->state[DFC_CALLER] = PEER_REQUESTING, c->state[DFC_CALLEE] = PEER_WAITING;
+    c->use++;
+    c->to[0].count = c->to[1].count = 0;
+    return (dfc_placed){0, q.value, q.kind, q.box_number, q.address, r, c->use};
 }
 
-dfc_placed peer_port_place(const uint8_t *file, size_t file_size, const uint8_t *sent, size_t sent_size, uint8_t port[DFC_CALL],
-                           uint8_t *source_list, size_t source_size, uint8_t *target_list, size_t target_size, uint8_t received[DFC_SETUP]) {
-    return peer_place(file, file_size, sent, sent_size, port, DFC_CALL, source_list, source_size, target_list, target_size, received);
+dfc_placed peer_port_place(const uint8_t *file, size_t file_size, const uint8_t *sent, size_t sent_size, peer_call *port, uint8_t *source_list,
+                           size_t source_size, uint8_t *target_list, size_t target_size, uint8_t received[DFC_SETUP]) {
+    return peer_place(file, file_size, sent, sent_size, port, 1, source_list, source_size, target_list, target_size, received);
 }

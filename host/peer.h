@@ -1,7 +1,34 @@
-/* The peer: the operations of dfc.h a second time, written in C from document 01 and dfc.h. */
+/* The peer: the operations of dfc.h a second time, written in C from document 01, the manual and dfc.h. It keeps calls in structs, with a ring for each queue. */
 #ifndef PEER_H
 #define PEER_H
 #include "../include/dfc.h"
+
+/* Made with PEER_FAULTS, the driver is told one of the faults that host/test has to find; it lies in the peer or in what the driver expects. */
+#ifdef PEER_FAULTS
+extern int peer_fault;
+#define FAULT(n) (peer_fault == (n))
+#else
+#define FAULT(n) 0
+#endif
+
+enum { PEER_IDLE, PEER_REQUESTING, PEER_WAITING, PEER_LINKED, PEER_UNLINKING };
+
+typedef struct {
+    uint8_t kind, tunnel, code;
+} peer_signal;
+
+/* the oldest signal is at the head; a count above 16 is a broken call's, on which nothing is done */
+typedef struct {
+    uint8_t head, count;
+    peer_signal at[16];
+} peer_ring;
+
+/* indexed by DFC_CALLER and DFC_CALLEE: an end's state, and what waits for it */
+typedef struct {
+    uint8_t state[2];
+    uint16_t use;
+    peer_ring to[2];
+} peer_call;
 
 dfc_answer peer_check(const uint8_t *file, size_t file_size);
 dfc_answer peer_write(const uint8_t *file, size_t file_size, uint8_t *room, size_t room_size);
@@ -16,12 +43,12 @@ dfc_answer peer_reversed(const uint8_t *file, size_t file_size, uint8_t kind, ui
                          uint8_t made[DFC_SETUP]);
 dfc_routed peer_route(const uint8_t *file, size_t file_size, const uint8_t *sent, size_t sent_size, uint8_t *source_list,
                       size_t source_size, uint8_t *target_list, size_t target_size, uint8_t received[DFC_SETUP]);
-void peer_clear(uint8_t *row, size_t row_size);
-dfc_placed peer_place(const uint8_t *file, size_t file_size, const uint8_t *sent, size_t sent_size, uint8_t *row, size_t row_size,
+void peer_clear(peer_call *row, size_t records);
+dfc_placed peer_place(const uint8_t *file, size_t file_size, const uint8_t *sent, size_t sent_size, peer_call *row, size_t records,
                       uint8_t *source_list, size_t source_size, uint8_t *target_list, size_t target_size, uint8_t received[DFC_SETUP]);
-dfc_commanded peer_command(uint8_t *row, size_t row_size, size_t record_number, uint16_t use_number, uint8_t kind, uint8_t side, uint8_t signal,
+dfc_commanded peer_command(peer_call *row, size_t records, size_t record_number, uint16_t use_number, uint8_t kind, uint8_t side, uint8_t signal,
                            uint8_t tunnel, uint8_t code);
-dfc_placed peer_port_place(const uint8_t *file, size_t file_size, const uint8_t *sent, size_t sent_size, uint8_t port[DFC_CALL],
-                           uint8_t *source_list, size_t source_size, uint8_t *target_list, size_t target_size, uint8_t received[DFC_SETUP]);
-dfc_commanded peer_port_command(uint8_t port[DFC_CALL], uint8_t kind, uint8_t side, uint8_t signal, uint8_t tunnel, uint8_t code);
+dfc_placed peer_port_place(const uint8_t *file, size_t file_size, const uint8_t *sent, size_t sent_size, peer_call *port, uint8_t *source_list,
+                           size_t source_size, uint8_t *target_list, size_t target_size, uint8_t received[DFC_SETUP]);
+dfc_commanded peer_port_command(peer_call *port, uint8_t kind, uint8_t side, uint8_t signal, uint8_t tunnel, uint8_t code);
 #endif

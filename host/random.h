@@ -128,8 +128,17 @@ static inline void break_plan(rng *r, any_plan *p) {
     const any_subscriber *o = p->count ? &p->sub[below(r, p->count)] : &p->sub[0];
     switch (below(r, 12)) {
     case 0: p->set[below(r, 5)] ^= (uint32_t)1 << below(r, 32); break;
-    case 1:
-    case 2: p->row[below(r, 2)][below(r, 32)] ^= (uint32_t)1 << below(r, 32); break;
+    case 1: p->row[below(r, 2)][below(r, 32)] ^= (uint32_t)1 << below(r, 32); break;
+    case 2: { /* a pair less in an order, which then may no longer be closed */
+        uint32_t *row = p->row[below(r, 2)], a = below(r, 32), n = 0;
+        while (n < 32 && row[a] == 0) a = (a + 1) % 32, n++;
+        if (row[a]) {
+            uint32_t b = below(r, 32);
+            while (!(row[a] >> b & 1)) b = (b + 1) % 32;
+            row[a] &= ~((uint32_t)1 << b);
+        }
+        break;
+    }
     case 3:
     case 4: {
         uint32_t t = below(r, 32); /* half of the time a reversible type */

@@ -135,25 +135,37 @@ dfc_routed dfc_route(const uint8_t *file, size_t file_size, const uint8_t *sent,
  *        53  the same for the callee
  * A record is free when both states are 0. A row is a run of records one after the other: size / DFC_CALL of them, counted from 0, at most 1,024;
  * bytes past the last whole record are never looked at or written. A port is one record. The memory is the caller's, and so is what stands in it:
- * any bytes are a record. A state above 4 stands for 4, a signal above DFC_SPECIAL for DFC_SPECIAL; a tunnel or code of the first three signals, and a
- * code of DFC_UNKNOWN to DFC_NONE, do not count. What is accepted writes the one record that it is about, all its bytes, in the form above (0 where
- * a signal has no tunnel or code); a delivery moves the places one down and puts 0 0 0 in the last. Every other byte stays. */
+ * any bytes are a record. A state above 4 stands for 4. A signal 0 is an empty place's and stands for DFC_UPACK; 1 and any number above DFC_DOWNACK stand
+ * for a DFC_DTMF without a symbol (code 255), which no end takes: its delivery is 17. A tunnel or code that a signal has none of does not count, nor does
+ * a place past the count.
+ * Placing writes all bytes of the record that takes the call: 1, 2, the use number, and zeros. A command that is accepted writes only what it changes: the
+ * acting end's state; for each signal sent, its three bytes in the place of the count, and the count one higher; for a delivery, the 15 later places of
+ * the queue one place down, 0 0 0 in the last, and the count one lower. Every other byte stays, whatever it is; a refusal leaves all of them.
+ *
+ * PROVED of the bytes that are lent, rows and ports (crates/rowbytes/specs/Operations.antt), for any calls of these functions, refused ones included:
+ * after dfc_clear no refusal is 17; and for a call that was placed in a record, whatever its bytes were before,
+ *    while an end isn't idle, some command for the call is accepted: accept, the caller's teardown or a delivery (no deadlock);
+ *    what an end sent is what the other was handed, and after that what waits for it (first in, first out);
+ *    after the first teardown the call closes in as many deliveries as document 01's third demand says, and until then some delivery is accepted.
+ * This holds as long as nothing else writes the record. */
 #define DFC_CALL 102
 
-/* Signals. The first three carry nothing; DFC_UNKNOWN to DFC_NONE are ordinary in tunnel 0; DFC_DTMF in a tunnel from 1 on with a code
- * 0 to 9 for a digit, 10 for *, 11 for #; DFC_SPECIAL in any tunnel with any code. */
-enum { DFC_UPACK = 0, DFC_TEARDOWN = 1, DFC_DOWNACK = 2, DFC_UNKNOWN = 3, DFC_AVAIL = 4, DFC_UNAVAIL = 5, DFC_NONE = 6, DFC_DTMF = 7, DFC_SPECIAL = 8 };
+/* Signals, with the numbers of records, commands and logs (1 is setup's, which waits in no queue). DFC_UPACK, DFC_TEARDOWN and DFC_DOWNACK carry nothing;
+ * DFC_UNKNOWN to DFC_NONE are ordinary in tunnel 0; DFC_DTMF in a tunnel from 1 on with a code 0 to 9 for a digit, 10 for *, 11 for #; DFC_SPECIAL in any
+ * tunnel with any code. */
+enum { DFC_UPACK = 2, DFC_UNKNOWN = 3, DFC_AVAIL = 4, DFC_UNAVAIL = 5, DFC_NONE = 6, DFC_DTMF = 7, DFC_SPECIAL = 8, DFC_TEARDOWN = 9, DFC_DOWNACK = 10 };
 /* Sides: any number but 0 is the callee. */
 enum { DFC_CALLER = 0, DFC_CALLEE = 1 };
 /* Commands. The callee answers once: accept, busy or unobtainable; these name no side. Send is an ordinary signal from a side, by signal (any number but
- * DFC_UNKNOWN to DFC_SPECIAL is no ordinary signal: 15), tunnel and code; teardown is from a side too; deliver, and any number above, hands the oldest signal
- * that waits for a side over to it. Arguments that a command has no use for do not count. */
+ * DFC_UNKNOWN to DFC_SPECIAL is no ordinary signal: 15), tunnel and code; teardown is from a side too; deliver hands the oldest signal that waits for a
+ * side over to it. A number above is no command: it is refused as a send of no ordinary signal is (16, 10, 17 for a count, 12, 15).
+ * Arguments that a command has no use for do not count. */
 enum { DFC_ACCEPT = 0, DFC_BUSY = 1, DFC_UNOBTAINABLE = 2, DFC_SEND = 3, DFC_SEND_TEARDOWN = 4, DFC_DELIVER = 5 };
 
 typedef struct {
     uint64_t number;    /* 0, or the refusal; beside a refusal the rest is 0 */
     uint64_t delivered; /* 1 where a signal was handed over: */
-    uint64_t signal;    /* DFC_UPACK .. DFC_SPECIAL */
+    uint64_t signal;    /* DFC_UPACK .. DFC_DOWNACK */
     uint64_t tunnel;    /* 0 for a signal that has none */
     uint64_t code;      /* of DFC_DTMF and DFC_SPECIAL; else 0 */
 } dfc_commanded;

@@ -76,7 +76,7 @@ module _ (c : Call) (s : Side) where
   deliver-none h = rw h
 
   -- something waits: first the head slot's signal
-  waiting-some : 0 < queueTo s c .count
+  pub waiting-some : 0 < queueTo s c .count
       → waiting s c ≡ slot (queueTo s c .slots) 0 .signal ∷ signals (queueTo s c .count - 1) (drop 1 (queueTo s c .slots))
   waiting-some h = go (queueTo s c .count) h
     where

@@ -5,7 +5,7 @@ use mathlib.Core.List.{List, [], _∷_, _++_}
 use lib.ListN.{length, getD, drop, set, replicate}
 use lib.Dec.{leb}
 use Rattle.refusal.specs.declared.Refusal.{Refusal}
-use Rattle.refusal.specs.declared.Refusal.the-variants.{NothingWaiting, BrokenRecord}
+use Rattle.refusal.specs.declared.Refusal.the-variants.{NoFreeRecord, NothingWaiting, BrokenRecord}
 use Rattle.refusal.specs.Numbers.{numberOf}
 use Rattle.ends.specs.declared.State.{State}
 use Rattle.ends.specs.declared.State.the-variants.{Idle, Requesting, Waiting, Linked, Unlinking}
@@ -220,6 +220,10 @@ quiet a b n =
 -- Placed: the caller requesting and the callee waiting, both queues empty, and the use number stepped. Nothing else of what the record held before is left.
 abbrev pub placed : Call → Call
 placed c = quiet Requesting Waiting (nextUse (c .«use_number»))
+
+-- Placing takes a free record, empties its queues, and steps its use number. 11 where the record is not free: it is left as it was.
+abbrev pub placingIn : Call → Step
+placingIn c = cond (isFree c) (record { answer = Accepted; call = placed c }) (refusing c NoFreeRecord)
 
 -- A cleared record: ends idle, queues empty, use number 0.
 abbrev pub cleared : Call

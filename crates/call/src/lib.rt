@@ -174,13 +174,6 @@ impl Call {
         Call::quiet(State::Idle, State::Idle, 0)
     }
 
-    // A call placed in the record: all that it held before is gone, and the use number is one on.
-    pub fn placed(self) -> Call
-        ensures { λ r. ⌜ r ≡ spec.placed self ⌝ }
-    {
-        Call::quiet(State::Requesting, State::Waiting, next_use(self.use_number))
-    }
-
     // Whether a call can be placed in the record: both ends are idle.
     pub fn is_free(self) -> bool
         ensures { λ r. ⌜ r ≡ spec.isFree self ⌝ }
@@ -240,6 +233,22 @@ impl Call {
         Step {
             answer: Answer::Refused(r),
             call: self,
+        }
+    }
+
+    // A call placed in the record, where it is free: all that it held before is gone, and the use number is one on. 11 where it is not free.
+    pub fn placed(self) -> Step
+        ensures { λ r. ⌜ r ≡ spec.placingIn self ⌝ }
+    {
+        let free = self.is_free();
+        if free {
+            let call = Call::quiet(State::Requesting, State::Waiting, next_use(self.use_number));
+            Step {
+                answer: Answer::Accepted,
+                call,
+            }
+        } else {
+            self.refused(Refusal::NoFreeRecord)
         }
     }
 

@@ -4,6 +4,8 @@
 // `then`, or is a line of its own: `accept`, `busy`, `unobtainable`, `send SIDE SIGNAL`, `teardown SIDE`, `deliver SIDE`, `place`, `show`: for the port, or with `record N use N` or `in row` for the row.
 // What comes: the answer, what was sent, and both states after it; or a refusal alone.
 // A row of more than four records is made for one line only, `row N .., record N .., then COMMAND`, of bytes alone: rows of so many structs, copied, would not go on the stack.
+mod records;
+
 use call::Call;
 use call::Command;
 use call_script::asked;
@@ -35,7 +37,7 @@ struct Came {
 
 // A record's bytes, put into a row where it has the place.
 fn put_record(row: &mut [u8], r: usize, c: Call) {
-    let bytes = callbytes::call_bytes(c);
+    let bytes = records::bytes_of(c);
     let at = r % 1025 * 102;
     for j in 0usize..102usize {
         if row.len() <= at + j {
@@ -55,7 +57,8 @@ fn fill(row: &mut [u8], count: usize, c: Call) {
 fn record_each(w: Words) -> Call {
     let mut c = Call::cleared();
     if names::says(w, names::FULL) {
-        return c.placed();
+        let s = c.placed();
+        return s.call;
     }
     c.use_number = asked::use_of(w);
     c
@@ -88,7 +91,7 @@ fn with_row(s: Scene, w: Words) -> Scene {
 
 fn with_port(s: Scene, w: Words) -> Scene {
     let bytes = if 1 < w.count {
-        callbytes::call_bytes(asked::record_of(w))
+        records::bytes_of(asked::record_of(w))
     } else {
         [0u8; 102]
     };
@@ -117,11 +120,11 @@ fn scened(s: Scene, w: Words) -> Scene {
 }
 
 fn record_in(bytes: [u8; 102]) -> Call {
-    callbytes::call_at(&bytes, 0)
+    records::read(bytes)
 }
 
 fn record_at(row: [u8; 408], r: usize) -> Call {
-    callbytes::call_at(&row, r % 1025 * 102)
+    records::read_at(&row, r)
 }
 
 fn calls_in(row: [u8; 408]) -> [Call; 4] {
@@ -163,7 +166,7 @@ fn port_stepped(s: Scene, k: Command) -> Came {
     let z = call_script::port_command_in(before, k);
     let answer = z.answer;
     let after = z.call;
-    let left = callbytes::call_bytes(after);
+    let left = records::bytes_of(after);
     let mut scene = s;
     scene.port = left;
     Came {
@@ -239,7 +242,7 @@ fn port_struct_placed(s: Scene, w: Words) -> Came {
         &mut target,
     );
     let placed = z.placed;
-    let left = callbytes::call_bytes(z.call);
+    let left = records::bytes_of(z.call);
     let mut scene = s;
     scene.port = left;
     Came {
@@ -287,9 +290,9 @@ fn bytes_commanded(row: &mut [u8], n: Named) -> Words {
     let at = n.record % 1025 * 102;
     let k = n.command;
     let others = digest(row, at);
-    let before = callbytes::call_at(row, at);
+    let before = records::read_at(row, n.record);
     let answer = rowbytes::command(row, n.record, n.use_number, k);
-    let words = told::command(answer, before, callbytes::call_at(row, at));
+    let words = told::command(answer, before, records::read_at(row, n.record));
     told::unless(words, digest(row, at) != others, names::ELSEWHERE)
 }
 
@@ -388,7 +391,7 @@ fn same_places(a: &[u8], b: &[u8]) -> bool {
     true
 }
 
-fn same_scene(a: Scene, b: Scene) -> bool {
+fn same_bytes(a: Scene, b: Scene) -> bool {
     let port = a.port;
     let row = a.row;
     let other_port = b.port;
@@ -396,14 +399,34 @@ fn same_scene(a: Scene, b: Scene) -> bool {
     same_places(&port, &other_port) && same_places(&row, &other_row)
 }
 
-// What came of the bytes. A refusal changes nothing, and the structs come to the same, in every place.
+// The same records, whatever bytes say them: an empty place and an upack, say, are two numbers and one signal.
+fn same_record(a: Call, b: Call) -> bool {
+    let one = records::bytes_of(a);
+    let two = records::bytes_of(b);
+    same_places(&one, &two)
+}
+
+fn same_records(a: Scene, b: Scene) -> bool {
+    let row = a.row;
+    let other_row = b.row;
+    for i in 0usize..4usize {
+        if !same_record(record_at(row, i), record_at(other_row, i)) {
+            return false;
+        }
+    }
+    let port = a.port;
+    let other_port = b.port;
+    same_record(record_in(port), record_in(other_port))
+}
+
+// What came of the bytes. A refusal changes no byte, and the structs come to the same, in every place.
 fn agreed(before: Scene, bytes: Came, structs: Came) -> Came {
     let words = bytes.words;
     let scene = bytes.scene;
     let other_words = structs.words;
     let other_scene = structs.scene;
-    let changed = told::is_refused(words) && !same_scene(before, scene);
-    let apart = !console::same_words(words, other_words) || !same_scene(scene, other_scene);
+    let changed = told::is_refused(words) && !same_bytes(before, scene);
+    let apart = !console::same_words(words, other_words) || !same_records(scene, other_scene);
     Came {
         words: told::unless(
             told::unless(words, changed, names::CHANGED),

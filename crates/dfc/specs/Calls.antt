@@ -2,7 +2,7 @@
 use Prim.Native.Nat.{ℕ}
 use mathlib.Core.Bool.{cond}
 use mathlib.Core.List.{List, [], _∷_}
-use lib.Dec.{eqb, ltb}
+use lib.Dec.{eqb}
 use Rattle.refusal.specs.Numbers.{numberOf}
 use Rattle.plan.specs.declared.Verdict.{Verdict}
 use Rattle.plan.specs.declared.Verdict.the-variants.{Sound, Refused}
@@ -16,14 +16,12 @@ use Rattle.call.specs.declared.Command.{Command}
 use Rattle.call.specs.declared.Command.the-variants.{Accept, Busy, Unobtainable, Send, Teardown, Deliver}
 use Rattle.call.specs.declared.Answer.{Answer}
 use Rattle.call.specs.declared.Answer.the-variants.{Accepted, Delivered, Refused as NotAccepted}
-use Rattle.call.specs.Row.{Reply, placed-at, says, lowestFree}
+use Rattle.call.specs.Row.{Reply, placed-at, says}
 use Rattle.placing.specs.declared.Placed.{Placed as Placing}
 use Rattle.placing.specs.Rows.{outcomeIn, turned, placedIn}
-use Rattle.ends.specs.declared.Status.{Status}
-use Rattle.ends.specs.declared.Status.the-variants.{Dtmf}
-use Rattle.signalbytes.specs.Numbers.{statusSaid, signalNumber, signalTunnel, signalCode}
-use Rattle.callbytes.specs.Codec.{callIn}
-use Rattle.rowbytes.specs.Rows.{rowIn, after, portAfter}
+use Rattle.signalbytes.specs.Numbers.{noSignal, statusSaid, signalNumber, signalTunnel, signalCode}
+use Rattle.recordbytes.specs.Records.{callAt}
+use Rattle.rowbytes.specs.Rows.{rowIn, placedBy}
 use Rattle.dfc.specs.declared.Routed.{Routed}
 use Rattle.dfc.specs.declared.Commanded.{Commanded}
 use Rattle.dfc.specs.declared.Placed.{Placed}
@@ -36,18 +34,14 @@ use Rattle.dfc.specs.Routes.{notRouted, routedSaid, routedRoom}
 abbrev pub sideOf : ℕ → Side
 sideOf n = cond (eqb n 0) Caller Callee
 
--- the status that is sent: 3 to 8 as in a record's bytes; any other number is no ordinary signal, and is told as a dtmf without a symbol, which no tunnel has, so that sending it is refused
-abbrev pub statusOf : ℕ → ℕ → Status
-statusOf n code = cond (ltb n 3) (Dtmf 255) (cond (ltb 8 n) (Dtmf 255) (statusSaid n code))
-
--- 0 accept, 1 busy, 2 unobtainable, 3 send, 4 teardown, any other number deliver; what a command has no use for does not count
+-- 0 accept, 1 busy, 2 unobtainable, 3 send, 4 teardown, 5 deliver; what a command has no use for does not count. Any other kind is no command, and is told as a send of what is no signal, which is refused.
 abbrev pub commandOf : ℕ → ℕ → ℕ → ℕ → ℕ → Command
 commandOf kind side signal tunnel code =
     cond (eqb kind 0) Accept
     (cond (eqb kind 1) Busy
     (cond (eqb kind 2) Unobtainable
-    (cond (eqb kind 3) (Send (sideOf side) tunnel (statusOf signal code))
-    (cond (eqb kind 4) (Teardown (sideOf side)) (Deliver (sideOf side))))))
+    (cond (eqb kind 3) (Send (sideOf side) tunnel (statusSaid signal code))
+    (cond (eqb kind 4) (Teardown (sideOf side)) (cond (eqb kind 5) (Deliver (sideOf side)) (Send (sideOf side) tunnel noSignal))))))
 
 -- number 0, and 1 and the signal where one was handed over; or the refusal's number, and zeros
 abbrev pub commandedSaid : Answer → Commanded
@@ -83,11 +77,11 @@ placed file s row n m = placedOver (readOf file .answer) (placedSaid (placingOve
 -- the row's bytes, a port's bytes
 unfoldable pub rowPlaced : List ℕ → List ℕ → List ℕ → ℕ → ℕ → List ℕ
 rowPlaced file s b n m =
-    lentOver (readOf file .answer) (after b (lowestFree (rowIn b)) (turned (rowIn b) (outcomeIn (rowIn b) (readOf file .plan) (setupIn s) n m))) b
+    lentOver (readOf file .answer) (placedBy (turned (rowIn b) (outcomeIn (rowIn b) (readOf file .plan) (setupIn s) n m) .reply) b) b
 
 unfoldable pub portPlaced : List ℕ → List ℕ → List ℕ → ℕ → ℕ → List ℕ
 portPlaced file s b n m =
-    lentOver (readOf file .answer) (portAfter b (turned (callIn b ∷ []) (outcomeIn (callIn b ∷ []) (readOf file .plan) (setupIn s) n m))) b
+    lentOver (readOf file .answer) (placedBy (turned (callAt b 0 ∷ []) (outcomeIn (callAt b 0 ∷ []) (readOf file .plan) (setupIn s) n m) .reply) b) b
 
 -- the two lists, and the room for the setup that the box receives
 unfoldable pub sourcePlaced : List ℕ → List ℕ → List Call → ℕ → ℕ → List ℕ → List ℕ

@@ -393,9 +393,10 @@ pub extern "C" fn dfc_route(
 ghost use mathlib.Core.List.{[], _∷_};
 ghost use Rattle.call.specs.Protocol.{step};
 ghost use Rattle.call.specs.Row.{turn, command as by-command};
-ghost use Rattle.callbytes.specs.Codec.{callIn};
-ghost use Rattle.rowbytes.specs.Rows.{rowIn, clearedIn, after, portCommanded};
-ghost use Rattle.dfc.specs.Calls.{sideOf, statusOf, commandOf, commandedSaid, replySaid, placedAs, placed, rowPlaced, portPlaced, sourcePlaced, targetPlaced, roomPlaced};
+ghost use Rattle.recordbytes.specs.Records.{callAt};
+ghost use Rattle.recordbytes.specs.Steps.{stepAt};
+ghost use Rattle.rowbytes.specs.Rows.{rowIn, clearedIn, commandedIn};
+ghost use Rattle.dfc.specs.Calls.{sideOf, commandOf, commandedSaid, replySaid, placedAs, placed, rowPlaced, portPlaced, sourcePlaced, targetPlaced, roomPlaced};
 use call::Command;
 use call::Side;
 use ends::Status;
@@ -428,19 +429,6 @@ fn side_of(n: u8) -> Side
     if n == 0 { Side::Caller } else { Side::Callee }
 }
 
-// The status that a number says; a number that is no ordinary signal says one that no tunnel has.
-fn status_of(n: u8, code: u8) -> Status
-    ensures { λ r. ⌜ r ≡ statusOf n code ⌝ }
-{
-    if n < 3 {
-        return Status::Dtmf(255);
-    }
-    if 8 < n {
-        return Status::Dtmf(255);
-    }
-    signalbytes::status_said(n, code)
-}
-
 fn command_of(kind: u8, side: u8, signal: u8, tunnel: u8, code: u8) -> Command
     ensures { λ r. ⌜ r ≡ commandOf kind side signal tunnel code ⌝ }
 {
@@ -454,12 +442,19 @@ fn command_of(kind: u8, side: u8, signal: u8, tunnel: u8, code: u8) -> Command
         return Command::Unobtainable;
     }
     if kind == 3 {
-        return Command::Send(side_of(side), tunnel, status_of(signal, code));
+        return Command::Send(
+            side_of(side),
+            tunnel,
+            signalbytes::status_said(signal, code),
+        );
     }
     if kind == 4 {
         return Command::Teardown(side_of(side));
     }
-    Command::Deliver(side_of(side))
+    if kind == 5 {
+        return Command::Deliver(side_of(side));
+    }
+    Command::Send(side_of(side), tunnel, Status::Dtmf(255))
 }
 
 fn commanded_said(a: call::Answer) -> Commanded
@@ -511,7 +506,7 @@ pub extern "C" fn dfc_command(
     code: u8,
 ) -> Commanded
     ensures { λ r. ⌜ (r ≡ replySaid (turn (rowIn (now (row .entry))) (by-command «record_number» «use_number» (commandOf kind side signal tunnel code)) .reply))
-        × (now (row .exit) ≡ after (now (row .entry)) «record_number» (turn (rowIn (now (row .entry))) (by-command «record_number» «use_number» (commandOf kind side signal tunnel code)))) ⌝ }
+        × (now (row .exit) ≡ commandedIn (now (row .entry)) «record_number» «use_number» (commandOf kind side signal tunnel code)) ⌝ }
 {
     let k = command_of(kind, side, signal, tunnel, code);
     let a = rowbytes::command(row, record_number, use_number, k);
@@ -528,8 +523,8 @@ pub extern "C" fn dfc_port_command(
     tunnel: u8,
     code: u8,
 ) -> Commanded
-    ensures { λ r. ⌜ (r ≡ commandedSaid (step (callIn (now (port .entry))) (commandOf kind side signal tunnel code) .answer))
-        × (now (port .exit) ≡ portCommanded (now (port .entry)) (commandOf kind side signal tunnel code)) ⌝ }
+    ensures { λ r. ⌜ (r ≡ commandedSaid (step (callAt (now (port .entry)) 0) (commandOf kind side signal tunnel code) .answer))
+        × (now (port .exit) ≡ stepAt (now (port .entry)) 0 (commandOf kind side signal tunnel code) .bytes) ⌝ }
 {
     let k = command_of(kind, side, signal, tunnel, code);
     let a = rowbytes::port_command(port, k);
@@ -600,11 +595,11 @@ pub extern "C" fn dfc_port_place(
     target_list: &mut [u8],
     room: &mut [u8; 110],
 ) -> Placed
-    ensures { λ r. ⌜ (r ≡ placed (now (file .entry)) (now (setup .entry)) (callIn (now (port .entry)) ∷ []) (length (now («source_list» .entry))) (length (now («target_list» .entry))))
+    ensures { λ r. ⌜ (r ≡ placed (now (file .entry)) (now (setup .entry)) (callAt (now (port .entry)) 0 ∷ []) (length (now («source_list» .entry))) (length (now («target_list» .entry))))
         × (now (port .exit) ≡ portPlaced (now (file .entry)) (now (setup .entry)) (now (port .entry)) (length (now («source_list» .entry))) (length (now («target_list» .entry))))
-        × (now («source_list» .exit) ≡ sourcePlaced (now (file .entry)) (now (setup .entry)) (callIn (now (port .entry)) ∷ []) (length (now («source_list» .entry))) (length (now («target_list» .entry))) (now («source_list» .entry)))
-        × (now («target_list» .exit) ≡ targetPlaced (now (file .entry)) (now (setup .entry)) (callIn (now (port .entry)) ∷ []) (length (now («source_list» .entry))) (length (now («target_list» .entry))) (now («target_list» .entry)))
-        × (now (room .exit) ≡ roomPlaced (now (file .entry)) (now (setup .entry)) (callIn (now (port .entry)) ∷ []) (length (now («source_list» .entry))) (length (now («target_list» .entry))) (now (room .entry))) ⌝ }
+        × (now («source_list» .exit) ≡ sourcePlaced (now (file .entry)) (now (setup .entry)) (callAt (now (port .entry)) 0 ∷ []) (length (now («source_list» .entry))) (length (now («target_list» .entry))) (now («source_list» .entry)))
+        × (now («target_list» .exit) ≡ targetPlaced (now (file .entry)) (now (setup .entry)) (callAt (now (port .entry)) 0 ∷ []) (length (now («source_list» .entry))) (length (now («target_list» .entry))) (now («target_list» .entry)))
+        × (now (room .exit) ≡ roomPlaced (now (file .entry)) (now (setup .entry)) (callAt (now (port .entry)) 0 ∷ []) (length (now («source_list» .entry))) (length (now («target_list» .entry))) (now (room .entry))) ⌝ }
 {
     let out = setupbytes::setup_in(setup);
     let sight = planback::scan(file, out.source, routing::extracted(out));

@@ -1,13 +1,12 @@
 -- What is taken from a lent row, what names a record of it, and an answer beside it, in the words of the call's own `Row` and `Protocol`. What a command comes to is in the crate `commanding`. Assumes nothing.
 use Prim.Native.Nat.{ℕ}
-use mathlib.Core.Bool.{Bool, not, _&&_}
+use mathlib.Core.Bool.{Bool, _&&_}
 use mathlib.Core.List.{List}
 use lib.ListN.{length}
-use lib.Dec.{ltb, eqb}
+use lib.Dec.{ltb}
 use Rattle.call.specs.declared.Call.{Call}
 use Rattle.call.specs.declared.Answer.{Answer}
-use Rattle.call.specs.Protocol.{isFree}
-use Rattle.call.specs.Row.{Turn, says, recordAt}
+use Rattle.call.specs.Row.{Turn, says, recordAt, inUse}
 use Rattle.exchange.specs.declared.Taken.{Taken}
 
 -- an answer, and the row after it
@@ -20,4 +19,4 @@ takenAt row r = record { inside = ltb r (length row); call = recordAt row r }
 
 -- the record is within the row, not free, and of this use
 abbrev pub answersTo : Taken → ℕ → Bool
-answersTo t u = t .inside && (not (isFree (t .call)) && eqb (t .call .«use_number») u)
+answersTo t u = t .inside && inUse (t .call) u

@@ -23,11 +23,8 @@ use Rattle.placing.specs.declared.Placed.{Placed}
 use Rattle.placing.specs.Rows.{laterFor, outcomeIn, answerIn, turned, answered}
 use Rattle.placing.proofs.place_port as place-port
 use Rattle.placing.proofs.place as place
-use Rattle.placing.proofs.answer_for.Reads as answer-for
-use Rattle.placing.proofs.port_later.Reads as port-later
 use Rattle.placing.proofs.later_for.Reads as later-for
 use Rattle.routing.specs.declared.Later.{Later}
-use Rattle.call.specs.declared.Call.{Call}
 
 -- what routing gave is answered whatever the row says
 routed-is : (x : Reply) (a : Answer) → answered x a .routed ≡ a
@@ -54,9 +51,3 @@ module _ {M : Type 1} (𝓤 : URA M) (H : Heap 𝓤) (A : Atoms 𝓤) (mem : Mem
 
 pub later-for-exact : (n i : ℕ) (r s : Later) → later-for.Post tt (n, (i, tt)) r (n, (i, tt)) → later-for.Post tt (n, (i, tt)) s (n, (i, tt)) → r ≡ s
 later-for-exact n i r s p q = p ∙ sym q
-
-pub port-later-exact : (c : Call) (r s : Later) → port-later.Post tt (c, tt) r (c, tt) → port-later.Post tt (c, tt) s (c, tt) → r ≡ s
-port-later-exact c r s p q = p ∙ sym q
-
-pub answer-for-exact : (a : Answer) (i : ℕ) (c : Call) (r s : Placed) → answer-for.Post tt (a, (i, (c, tt))) r (a, (i, (c, tt))) → answer-for.Post tt (a, (i, (c, tt))) s (a, (i, (c, tt))) → r ≡ s
-answer-for-exact a i c r s p q = p ∙ sym q

@@ -1,13 +1,14 @@
--- The theorems on the public operations of a row (specs/Operations.antt). Assumes nothing.
+-- The theorems on the public operations of a row and of a port (specs/Operations.antt). Assumes nothing.
 use Prim.Native.Nat.{ℕ, zero, suc, _≤_, _<_}
 use mathlib.Core.Path.{_≡_, refl, sym, _∙_, ap, subst}
 use mathlib.Core.Logic.{_⊎_, inl, inr, ⊎-elim, _≢_}
-use mathlib.Core.Bool.{Bool, true, false, cond, not, _&&_, true≢false}
-use mathlib.Core.List.{List, [], _∷_, _++_}
+use mathlib.Core.Bool.{Bool, true, false, cond, not, _&&_, and-false, true≢false}
+use mathlib.Core.List.{List, [], _∷_, _++_, map}
 use native.Mathlib.Omega.{arith}
-use lib.ListN.{length, set, replicate}
+use lib.ListN.{length, set, length-set, replicate, List·getD-eq-default}
+use lib.Seq.{getD-set-same, getD-set-other}
 use lib.Dec.{T as Holds, ltb, eqb}
-use borrow.Author.Tests.{le-ltb, lt-ltb, eq-eqb, ne-eqb}
+use borrow.Author.Tests.{le-ltb, lt-ltb, ltb-true, ltb-false, eq-eqb, ne-eqb, eqb-true, eqb-false}
 use Rattle.refusal.specs.declared.Refusal.{Refusal}
 use Rattle.refusal.specs.declared.Refusal.the-variants.{NoSuchCall, RowTooLong, NoFreeRecord, RuleBroken, Malformed, ListTooShort}
 use Rattle.refusal.specs.Numbers.{numberOf}
@@ -20,22 +21,18 @@ use Rattle.routing.specs.declared.Later.the-variants.{Nothing, Refuse}
 use Rattle.routing.specs.declared.Outcome.{Outcome}
 use Rattle.routing.specs.declared.Outcome.the-variants.{Routed, Refused}
 use Rattle.routing.specs.Routing.{settled as firstRefusal, outcome, answer, numberOfOutcome}
-use Rattle.routing.specs.Steps.{calleeOf}
 use Rattle.routing.proofs.Zoned.{settled-refusal, list-refused, list-routed}
 use Rattle.call.specs.declared.Call.{Call}
 use Rattle.call.specs.declared.Command.{Command}
 use Rattle.call.specs.Protocol.{isFree, step, numberIn, placed, cleared, nextUse}
-use Rattle.call.specs.Row.{Act, place, command, placed-at, Turn, recordAt, lowestFree, named, refuses, placeAt, put, turn, turns, numberOfReply, own, placings}
-use Rattle.call.specs.declared.Command.the-variants.{Accept, Busy, Unobtainable, Send, Teardown as Hang-up, Deliver}
-use Rattle.call.specs.declared.Side.the-variants.{Caller as to-caller, Callee as to-callee}
-use Rattle.call.specs.History.{after}
-use Rattle.teardown.specs.Teardown.{PlacedLowest, FirstTeardownIn, ClosesIn}
-use Rattle.teardown.proofs.Row.{turns-length, placing-law, demand3InRow, usesComeRound}
-use Rattle.teardown.proofs.Theorem.{never17 as never17-after, endsIdle, refusedSame, after-append}
+use Rattle.call.specs.Row.{Act, place, command, Turn, recordAt, lowestFree, named, refuses, placeAt, put, turn, turns, Event, placing as new-call, doing, lives, own}
+use Rattle.teardown.specs.Teardown.{PlacedLowest}
+use Rattle.teardown.proofs.Row.{turns-length, lives-append, byItsOwn, placing-law, lives-commands, lived-not-17, turn-not-17, demand3InRow, usesComeRound}
+use Rattle.teardown.proofs.Theorem.{noDeadlock, inOrder, demand3 as demand3-of-record}
 use Rattle.placing.specs.declared.Placed.{Placed}
 use Rattle.placing.specs.Rows.{laterFor, outcomeIn, answerIn, turned, answered, placedIn, rowAfter}
-use Rattle.placing.specs.Operations.{Operation, placing, commanding, rowOf, numberFor, rowsOf, PortOperation, placing-there, commanding-it, portOf, portNumber, Use, operating, lending, clearing, used, PortUse, operating-it, clearing-it, portUsed, Never17, PortNever17, actBy, actOf, actsOf, AsActs, CallPlaced, Demand3, PlacesLowest, Placing, OldName, OldNames}
-use Rattle.placing.proofs.Settles.{routing-to, refusing-by, came, places}
+use Rattle.placing.specs.Operations.{Operation, placing, commanding, rowOf, numberFor, PortOperation, placing-there, commanding-it, portOf, portNumber, Use, operating, lending, clearing, used, PortUse, operating-it, clearing-it, portUsed, Never17, PortNever17, actBy, actOf, actsOf, AsActs, Demand3, eventBy, eventOf, eventsOf, AsEvents, NoneInUse, CallsInPort, PortReached, PortNoDeadlock, PortInOrder, PortDemand3, PlacesLowest, Placing, OldNames}
+use Rattle.placing.proofs.Settles.{routing-to, refusing-by, came-by, places, port-places}
 
 -- ---- what an operation does is what its acts do
 turns-append : (row : List Call) (xs ys : List Act) → turns row (xs ++ ys) ≡ turns (turns row xs) ys
@@ -53,6 +50,21 @@ as-act row (commanding r u k) = refl
 pub as-acts : AsActs
 as-acts row [] = refl
 as-acts row (x ∷ xs) = as-acts (rowOf row x) xs ∙ ap (λ (z : List Call). turns z (actsOf (rowOf row x) xs)) (as-act row x) ∙ sym (turns-append row (actOf row x) (actsOf (rowOf row x) xs))
+
+-- ---- and what an operation on a port does is what its events do
+as-event : (c : Call) (x : PortOperation) → portOf c x ≡ lives c (eventOf c x)
+as-event c (placing-there p s n m) = elim (came-by (sound p) (c ∷ []) p s n m) as (λ _. By (outcomeIn (c ∷ []) p s n m)) [
+  | routing-to x free e ↦ subst By (sym e) (ap (λ (t : Turn). recordAt (t .row) 0) (port-places c free))
+  | refusing-by x e ↦ subst By (sym e) refl
+]
+  where
+    By : Outcome → Type 0
+    By o = recordAt (turned (c ∷ []) o .row) 0 ≡ lives c (eventBy o)
+as-event c (commanding-it k) = refl
+
+pub as-events : AsEvents
+as-events c [] = refl
+as-events c (x ∷ xs) = as-events (portOf c x) xs ∙ ap (λ (z : Call). lives z (eventsOf (portOf c x) xs)) (as-event c x) ∙ sym (lives-append c (eventOf c x) (eventsOf (portOf c x) xs))
 
 -- ---- 17 never
 abbrev refusalIn : Refusal → Later → Refusal
@@ -82,109 +94,77 @@ placing-number row p s n m = by (firstRefusal p s (laterFor row) n m) refl
         (λ (l : laterFor row ≡ Refuse x). ⊎-elim (not-17 x RowTooLong refl) (not-17 x NoFreeRecord refl) (by-row (ltb 1024 (length row)) (ltb (lowestFree row) (length row)) x l))))
         (settled-refusal (sound p) p s (laterFor row) n m x e))
 
--- What the operations make of a record that began cleared: it is still cleared, or a call was placed in it and commands came after.
-data Came (c : Call) : Type 0 where
-  still : c ≡ cleared → Came c
-  by-placing : (d : Call) (ks : List Command) → c ≡ after (placed d) ks → Came c
+-- What the operations make of a record that began cleared: what placings and commands, since it was last cleared, lead to.
+abbrev Led : Call → Type 0
+Led c = (xs : List Event) × (c ≡ lives cleared xs)
 
--- no command is allowed in a cleared record
-cleared-number : (k : Command) → numberIn (step cleared k .answer) ≢ 17
-cleared-number Accept = other 12 refl
-cleared-number Busy = other 12 refl
-cleared-number Unobtainable = other 12 refl
-cleared-number (Send to-caller t x) = other 12 refl
-cleared-number (Send to-callee t x) = other 12 refl
-cleared-number (Hang-up to-caller) = other 12 refl
-cleared-number (Hang-up to-callee) = other 12 refl
-cleared-number (Deliver to-caller) = other 14 refl
-cleared-number (Deliver to-callee) = other 14 refl
+led-on : (c : Call) (ys : List Event) → Led c → Led (lives c ys)
+led-on c ys (xs, e) = (xs ++ ys, ap (λ (z : Call). lives z ys) e ∙ sym (lives-append cleared xs ys))
 
-step-number : (c : Call) → Came c → (k : Command) → numberIn (step c k .answer) ≢ 17
-step-number c (still e) k = subst (λ (z : Call). numberIn (step z k .answer) ≢ 17) (sym e) (cleared-number k)
-step-number c (by-placing d ks e) k = subst (λ (z : Call). numberIn (step z k .answer) ≢ 17) (sym e) (never17-after d ks k)
-
-step-came : (c : Call) → Came c → (k : Command) → Came (step c k .call)
-step-came c (still e) k = still (ap (λ (z : Call). step z k .call) e ∙ refusedSame cleared k (endsIdle cleared k tt))
-step-came c (by-placing d ks e) k = by-placing d (ks ++ k ∷ []) (ap (λ (z : Call). step z k .call) e ∙ sym (after-append (placed d) ks (k ∷ [])))
-
-placed-came : (c : Call) → Came (placed c)
-placed-came c = by-placing c [] refl
+led-number : (c : Call) → Led c → (k : Command) → numberIn (step c k .answer) ≢ 17
+led-number c (xs, e) k = subst (λ (z : Call). numberIn (step z k .answer) ≢ 17) (sym e) (lived-not-17 xs k)
 
 -- of each record of a row
-abbrev AllCame : List Call → Type 0
-AllCame [] = Unit {0}
-AllCame (c ∷ cs) = Came c × AllCame cs
+abbrev AllLed : List Call → Type 0
+AllLed row = (r : ℕ) → r < length row → Led (recordAt row r)
 
-at-came : (row : List Call) (r : ℕ) → AllCame row → Came (recordAt row r)
-at-came [] r all = still refl
-at-came (c ∷ cs) zero all = all .0
-at-came (c ∷ cs) (suc r) all = at-came cs r (all .1)
+at-led : (row : List Call) → AllLed row → (r : ℕ) → Led (recordAt row r)
+at-led row all r = by (ltb r (length row)) refl
+  where
+    by : (b : Bool) → ltb r (length row) ≡ b → Led (recordAt row r)
+    by true e = all r (ltb-true r (length row) e)
+    by false e = ([], List·getD-eq-default row cleared (ltb-false r (length row) e))
 
-set-came : (row : List Call) (r : ℕ) (c : Call) → AllCame row → Came c → AllCame (set row r c)
-set-came [] r c all it = tt
-set-came (x ∷ xs) zero c all it = (it, all .1)
-set-came (x ∷ xs) (suc r) c all it = (all .0, set-came xs r c (all .1) it)
+set-led : (row : List Call) (r : ℕ) (c : Call) → AllLed row → Led c → AllLed (set row r c)
+set-led row r c all it j h = by (eqb j r) refl
+  where
+    inside : j < length row
+    inside = omega (arith, length-set row r c)
 
-cleared-came : (n : ℕ) → AllCame (replicate n cleared)
-cleared-came zero = tt
-cleared-came (suc n) = (still refl, cleared-came n)
+    by : (b : Bool) → eqb j r ≡ b → Led (recordAt (set row r c) j)
+    by true e = rw (← (eqb-true j r e)) (rw (getD-set-same row j c cleared inside) it)
+    by false e = rw (getD-set-other row r j c cleared (eqb-false j r e)) (all j inside)
 
--- a command, by the row's two tests
-command-came : (row : List Call) (r : ℕ) (k : Command) → AllCame row → (long fits : Bool) → AllCame (cond long (refuses RowTooLong row) (cond fits (put row r (step (recordAt row r) k)) (refuses NoSuchCall row)) .row)
-command-came row r k all true fits = all
-command-came row r k all false true = set-came row r (step (recordAt row r) k .call) all (step-came (recordAt row r) (at-came row r all) k)
-command-came row r k all false false = all
+cleared-led : (n : ℕ) → AllLed (replicate n cleared)
+cleared-led zero r h = ([], refl)
+cleared-led (suc n) zero h = ([], refl)
+cleared-led (suc n) (suc r) h = cleared-led n r (omega arith)
 
-command-number : (row : List Call) (r : ℕ) (k : Command) → AllCame row → (long fits : Bool) → numberOfReply (cond long (refuses RowTooLong row) (cond fits (put row r (step (recordAt row r) k)) (refuses NoSuchCall row)) .reply) ≢ 17
-command-number row r k all true fits = other 16 refl
-command-number row r k all false true = step-number (recordAt row r) (at-came row r all) k
-command-number row r k all false false = other 10 refl
+row-led : (row : List Call) → AllLed row → (x : Operation) → AllLed (rowOf row x)
+row-led row all x = rw (as-act row x) (λ r h.
+    (let inside : r < length row = omega (arith, turns-length row (actOf row x)) in
+    rw (byItsOwn row (actOf row x) r inside) (led-on (recordAt row r) (own r row (actOf row x)) (all r inside))))
 
--- a placing
-place-came : (row : List Call) → AllCame row → (long free : Bool) → AllCame (cond long (refuses RowTooLong row) (cond free (placeAt row (lowestFree row)) (refuses NoFreeRecord row)) .row)
-place-came row all true free = all
-place-came row all false true = set-came row (lowestFree row) (placed (recordAt row (lowestFree row))) all (placed-came (recordAt row (lowestFree row)))
-place-came row all false false = all
-
-turned-came : (row : List Call) → AllCame row → (o : Outcome) → AllCame (turned row o .row)
-turned-came row all (Routed c) = place-came row all (ltb 1024 (length row)) (ltb (lowestFree row) (length row))
-turned-came row all (Refused x) = all
-
-row-came : (row : List Call) → AllCame row → (x : Operation) → AllCame (rowOf row x)
-row-came row all (placing p s n m) = turned-came row all (outcomeIn row p s n m)
-row-came row all (commanding r u k) = command-came row r k all (ltb 1024 (length row)) (named row r u)
-
-row-number : (row : List Call) → AllCame row → (x : Operation) → numberFor row x ≢ 17
+row-number : (row : List Call) → AllLed row → (x : Operation) → numberFor row x ≢ 17
 row-number row all (placing p s n m) = placing-number row p s n m
-row-number row all (commanding r u k) = command-number row r k all (ltb 1024 (length row)) (named row r u)
+row-number row all (commanding r u k) = turn-not-17 row (λ j k h busy. led-number (recordAt row j) (all j h) k) (command r u k)
 
-port-came : (c : Call) → Came c → (x : PortOperation) → Came (portOf c x)
-port-came c it (placing-there p s n m) = at-came (rowAfter (c ∷ []) p s n m) 0 (turned-came (c ∷ []) (it, tt) (outcomeIn (c ∷ []) p s n m))
-port-came c it (commanding-it k) = step-came c it k
+port-led : (c : Call) → Led c → (x : PortOperation) → Led (portOf c x)
+port-led c it x = rw (as-event c x) (led-on c (eventOf c x) it)
 
-port-number : (c : Call) → Came c → (x : PortOperation) → portNumber c x ≢ 17
+port-number : (c : Call) → Led c → (x : PortOperation) → portNumber c x ≢ 17
 port-number c it (placing-there p s n m) = placing-number (c ∷ []) p s n m
-port-number c it (commanding-it k) = step-number c it k
+port-number c it (commanding-it k) = led-number c it k
 
-used-came : (row : List Call) → AllCame row → (xs : List Use) → AllCame (used row xs)
-used-came row all [] = all
-used-came row all (operating x ∷ xs) = used-came (rowOf row x) (row-came row all x) xs
-used-came row all (lending r x ∷ xs) = used-came (set row r (portOf (recordAt row r) x)) (set-came row r (portOf (recordAt row r) x) all (port-came (recordAt row r) (at-came row r all) x)) xs
-used-came row all (clearing ∷ xs) = used-came (replicate (length row) cleared) (cleared-came (length row)) xs
+used-led : (row : List Call) → AllLed row → (xs : List Use) → AllLed (used row xs)
+used-led row all [] = all
+used-led row all (operating x ∷ xs) = used-led (rowOf row x) (row-led row all x) xs
+used-led row all (lending r x ∷ xs) = used-led (set row r (portOf (recordAt row r) x)) (set-led row r (portOf (recordAt row r) x) all (port-led (recordAt row r) (at-led row all r) x)) xs
+used-led row all (clearing ∷ xs) = used-led (replicate (length row) cleared) (cleared-led (length row)) xs
 
-port-used-came : (c : Call) → Came c → (xs : List PortUse) → Came (portUsed c xs)
-port-used-came c it [] = it
-port-used-came c it (operating-it x ∷ xs) = port-used-came (portOf c x) (port-came c it x) xs
-port-used-came c it (clearing-it ∷ xs) = port-used-came cleared (still refl) xs
+port-used-led : (c : Call) → Led c → (xs : List PortUse) → Led (portUsed c xs)
+port-used-led c it [] = it
+port-used-led c it (operating-it x ∷ xs) = port-used-led (portOf c x) (port-led c it x) xs
+port-used-led c it (clearing-it ∷ xs) = port-used-led cleared ([], refl) xs
 
 pub never17 : Never17
 never17 = record {
-  in-row = λ n before x. row-number (used (replicate n cleared) before) (used-came (replicate n cleared) (cleared-came n) before) x;
-  in-record = λ n before r x. port-number (recordAt (used (replicate n cleared) before) r) (at-came (used (replicate n cleared) before) r (used-came (replicate n cleared) (cleared-came n) before)) x;
+  in-row = λ n before x. row-number (used (replicate n cleared) before) (used-led (replicate n cleared) (cleared-led n) before) x;
+  in-record = λ n before r x. port-number (recordAt (used (replicate n cleared) before) r) (at-led (used (replicate n cleared) before) (used-led (replicate n cleared) (cleared-led n) before) r) x;
 }
 
 pub port-never17 : PortNever17
-port-never17 before x = port-number (portUsed cleared before) (port-used-came cleared (still refl) before) x
+port-never17 before x = port-number (portUsed cleared before) (port-used-led cleared ([], refl) before) x
 
 -- ---- placing
 abbrev isRouted : Outcome → Bool
@@ -199,7 +179,7 @@ module _ (row : List Call) (p : Plan) (s : Setup) (n m : ℕ) (c : Callee) (e : 
   z = placedIn row p s n m
 
   nothing-later : laterFor row ≡ Nothing
-  nothing-later = elim (came row p s n m) as (λ _. laterFor row ≡ Nothing) [ routing-to b free q ↦ free | refusing-by x q ↦ absurd (routed-refused c x (sym e ∙ q)) ]
+  nothing-later = elim (came-by (sound p) row p s n m) as (λ _. laterFor row ≡ Nothing) [ routing-to b free q ↦ free | refusing-by x q ↦ absurd (routed-refused c x (sym e ∙ q)) ]
 
   turned-is : turned row (outcomeIn row p s n m) ≡ placeAt row (lowestFree row)
   turned-is = ap (turned row) e ∙ places row nothing-later
@@ -239,21 +219,52 @@ pub demand3 : Demand3
 demand3 row p s n m r u xs before k later first-is first =
     (as-acts row (placing p s n m ∷ xs) ∙ ap (λ (o : Outcome). turns row (actBy o ++ actsOf (rowAfter row p s n m) xs)) (first-is .routed), demand3InRow row r u (actsOf (rowAfter row p s n m) xs) before k later first)
 
--- ---- an old name
-and-false : (a b : Bool) → (a && (b && false)) ≡ false
-and-false true true = refl
-and-false true false = refl
-and-false false b = refl
-
-other-use : (row : List Call) (r u : ℕ) → (recordAt row r .«use_number» ≡ u → ⊥) → named row r u ≡ false
-other-use row r u ne = ap (λ (b : Bool). ltb r (length row) && (not (isFree (recordAt row r)) && b)) (ne-eqb _ _ ne) ∙ and-false (ltb r (length row)) (not (isFree (recordAt row r)))
-
-by-named : (row : List Call) (r u : ℕ) (k : Command) → ltb 1024 (length row) ≡ false → named row r u ≡ false → turn row (command r u k) ≡ refuses NoSuchCall row
-by-named row r u k short f = rw (short, f)
-
+-- ---- a call in a port
 held-true : (b : Bool) → Holds b → b ≡ true
 held-true true h = refl
 held-true false h = absurd h
+
+pub none-in-use : NoneInUse
+none-in-use c p s n m busy = elim (came-by (sound p) (c ∷ []) p s n m) as (λ _. None (outcomeIn (c ∷ []) p s n m)) [
+  | routing-to x free e ↦ absurd (in-use (isFree c) busy free)
+  | refusing-by x e ↦ subst None (sym e) (refl, refl)
+]
+  where
+    None : Outcome → Type 0
+    None o = (eventBy o ≡ []) × (recordAt (turned (c ∷ []) o .row) 0 ≡ c)
+
+    in-use : (free : Bool) → Holds (not free) → cond (ltb (cond free 0 1) 1) Nothing (Refuse NoFreeRecord) ≡ Nothing → ⊥
+    in-use true busy e = busy
+    in-use false busy e = let z : _≡_ {A = ℕ} 0 1 = cc in omega arith
+
+events-of-commands : (c : Call) (ks : List Command) → eventsOf c (map commanding-it ks) ≡ map doing ks
+events-of-commands c [] = refl
+events-of-commands c (k ∷ ks) = ap (_∷_ (doing k)) (events-of-commands (step c k .call) ks)
+
+pub calls-in-port : CallsInPort
+calls-in-port c p s n m x ks free routed = rw (held-true (isFree c) free, routed) (ap (_∷_ new-call) (events-of-commands (portOf c (placing-there p s n m)) ks))
+
+pub port-reached : PortReached
+port-reached c xs ks h = as-events c xs ∙ ap (lives c) h ∙ lives-commands (placed c) ks
+
+pub port-no-deadlock : PortNoDeadlock
+port-no-deadlock c xs ks h busy =
+    let z = port-reached c xs ks h in
+    let k = noDeadlock c ks (rw z at busy) in
+    (k .0, k .1, rw z (k .2))
+
+pub port-in-order : PortInOrder
+port-in-order c xs ks h e = rw (port-reached c xs ks h) (inOrder c ks e)
+
+pub port-demand3 : PortDemand3
+port-demand3 c xs before k later h first = rw (port-reached c xs (before ++ k ∷ later) h) (demand3-of-record c before k later first)
+
+-- ---- an old name
+other-use : (row : List Call) (r u : ℕ) → (recordAt row r .«use_number» ≡ u → ⊥) → named row r u ≡ false
+other-use row r u ne = ap (λ (b : Bool). ltb r (length row) && (not (isFree (recordAt row r)) && b)) (ne-eqb _ _ ne) ∙ simp and-false
+
+by-named : (row : List Call) (r u : ℕ) (k : Command) → ltb 1024 (length row) ≡ false → named row r u ≡ false → turn row (command r u k) ≡ refuses NoSuchCall row
+by-named row r u k short f = rw (short, f)
 
 -- in use and of this number: the name fits
 by-name : (row : List Call) (r u : ℕ) (k : Command) → ltb 1024 (length row) ≡ false → ltb r (length row) ≡ true → not (isFree (recordAt row r)) ≡ true → eqb (recordAt row r .«use_number») u ≡ true

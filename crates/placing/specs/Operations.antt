@@ -2,7 +2,7 @@
 use Prim.Native.Nat.{ℕ, _≤_, _<_}
 use mathlib.Core.Path.{_≡_}
 use mathlib.Core.Logic.{_≢_}
-use mathlib.Core.List.{List, [], _∷_, _++_}
+use mathlib.Core.List.{List, [], _∷_, _++_, map}
 use lib.Dec.{T}
 use mathlib.Core.Bool.{not}
 use lib.ListN.{length, set, replicate}
@@ -16,9 +16,11 @@ use Rattle.routing.specs.declared.Outcome.the-variants.{Routed, Refused}
 use Rattle.routing.specs.Routing.{outcome, answer, numberOfOutcome}
 use Rattle.call.specs.declared.Call.{Call}
 use Rattle.call.specs.declared.Command.{Command}
-use Rattle.call.specs.Row.{Act, place, command, recordAt, refuses, put, turn, turns, numberOfReply, own, placings}
-use Rattle.call.specs.Protocol.{isFree, step, numberIn, cleared, nextUse}
-use Rattle.teardown.specs.Teardown.{PlacedLowest, FirstTeardownIn, ClosesIn}
+use Rattle.call.specs.Row.{Act, place, command, recordAt, refuses, put, turn, turns, numberOfReply, Event, placing as new-call, doing, lives, own, placings}
+use Rattle.call.specs.declared.Side.{Side}
+use Rattle.call.specs.Protocol.{actor, other, waiting, isFree, step, numberIn, cleared, placed, nextUse}
+use Rattle.call.specs.History.{allows, after, sent, received}
+use Rattle.teardown.specs.Teardown.{FirstTeardown, Closes, OfFour, PlacedLowest, FirstTeardownIn, ClosesIn}
 use Rattle.placing.specs.Rows.{outcomeIn, placedIn, rowAfter}
 
 -- a placing of a setup under a plan, with n and m places in the two lists; or a command for a record and a use number
@@ -111,6 +113,62 @@ Demand3 =
     (row : List Call) (p : Plan) (s : Setup) (n m r u : ℕ) (xs : List Operation) (before : List Command) (k : Command) (later : List Command)
     → CallPlaced row p s n m r u → FirstTeardownIn row r u (actsOf (rowAfter row p s n m) xs) before k later
     → (rowsOf row (placing p s n m ∷ xs) ≡ turns row (place ∷ actsOf (rowAfter row p s n m) xs)) × ClosesIn row r u (actsOf (rowAfter row p s n m) xs) before k later
+
+-- A PORT: what its operations do is what these events do to its record, a new call for a placing that is accepted, and each command. A placing that is refused is none, and in a port in use every one is.
+abbrev pub eventBy : Outcome → List Event
+eventBy (Routed c) = new-call ∷ []
+eventBy (Refused x) = []
+
+abbrev pub eventOf : Call → PortOperation → List Event
+eventOf c (placing-there p s n m) = eventBy (outcomeIn (c ∷ []) p s n m)
+eventOf c (commanding-it k) = doing k ∷ []
+
+abbrev pub eventsOf : Call → List PortOperation → List Event
+eventsOf c [] = []
+eventsOf c (x ∷ xs) = eventOf c x ++ eventsOf (portOf c x) xs
+
+abbrev pub portsOf : Call → List PortOperation → Call
+portsOf c [] = c
+portsOf c (x ∷ xs) = portsOf (portOf c x) xs
+
+abbrev pub AsEvents : Type 0
+AsEvents = (c : Call) (xs : List PortOperation) → portsOf c xs ≡ lives c (eventsOf c xs)
+
+abbrev pub NoneInUse : Type 0
+NoneInUse = (c : Call) (p : Plan) (s : Setup) (n m : ℕ) → T (not (isFree c)) → (eventOf c (placing-there p s n m) ≡ []) × (portOf c (placing-there p s n m) ≡ c)
+
+-- A CALL IN A PORT, whatever the port held before: of its operations a placing is accepted, then come the commands ks, and no other placing is accepted. Placings that are refused may stand anywhere.
+abbrev pub CallInPort : Call → List PortOperation → List Command → Type 0
+CallInPort c xs ks = eventsOf c xs ≡ new-call ∷ map doing ks
+
+-- There is such a call of any commands: a free port takes what routing routes.
+abbrev pub CallsInPort : Type 0
+CallsInPort =
+    (c : Call) (p : Plan) (s : Setup) (n m : ℕ) (x : Callee) (ks : List Command) → T (isFree c) → outcome p s Nothing n m ≡ Routed x
+    → CallInPort c (placing-there p s n m ∷ map commanding-it ks) ks
+
+-- The port is what these commands alone lead to.
+abbrev pub PortReached : Type 0
+PortReached = (c : Call) (xs : List PortOperation) (ks : List Command) → CallInPort c xs ks → portsOf c xs ≡ after (placed c) ks
+
+-- No deadlock: one of the four commands is accepted, unless both ends are idle.
+abbrev pub PortNoDeadlock : Type 0
+PortNoDeadlock =
+    (c : Call) (xs : List PortOperation) (ks : List Command) → CallInPort c xs ks → T (not (isFree (portsOf c xs)))
+    → (k : Command) × OfFour k × T (allows (portsOf c xs) k)
+
+-- Reliable, first in first out: at any time what an end received is a beginning of what the other sent, and the rest waits.
+abbrev pub PortInOrder : Type 0
+PortInOrder =
+    (c : Call) (xs : List PortOperation) (ks : List Command) → CallInPort c xs ks → (e : Side)
+    → sent (other e) (placed c) ks ≡ received e (placed c) ks ++ waiting e (portsOf c xs)
+
+-- THE THIRD DEMAND IN A PORT: of the commands, which are `before`, k, `later`, k sends the first teardown.
+abbrev pub PortDemand3 : Type 0
+PortDemand3 =
+    (c : Call) (xs : List PortOperation) (before : List Command) (k : Command) (later : List Command)
+    → CallInPort c xs (before ++ k ∷ later) → FirstTeardown c before k
+    → Closes (placed c) (after (placed c) (before ++ k ∷ [])) (portsOf c xs) (actor k) (before ++ k ∷ later) later
 
 -- PLACING takes the lowest free record, answers with it and its use number, one more than before (65,535 followed by 0), and with exactly what routing alone gives; every other record is as it was.
 pub record PlacesLowest (row : List Call) (p : Plan) (s : Setup) (n m : ℕ) : Type 0 where

@@ -35,26 +35,27 @@ pub fn later_for(length: usize, free: usize) -> Later
     }
 }
 
-// The same for a port, which is a row of one.
-pub fn port_later(c: Call) -> Later
+// The same for a port, a row of one: its lowest free record is 0, or 1 where it is not free.
+fn port_later(c: Call) -> Later
     ensures { λ r. ⌜ r ≡ laterFor (c ∷ []) ⌝ }
 {
     let free = c.is_free();
     if free {
-        Later::Nothing
+        later_for(1, 0)
     } else {
-        Later::Refuse(Refusal::NoFreeRecord)
+        later_for(1, 1)
     }
 }
 
 // What placing answers for the record r, which holds c, by what routing gave.
-pub fn answer_for(a: routing::Answer, r: usize, c: Call) -> Placed
+fn answer_for(a: routing::Answer, r: usize, c: Call) -> Placed
     ensures { λ z. ⌜ z ≡ parts.answerFor a r c ⌝ }
 {
     let o = a.outcome;
     match o {
         Outcome::Routed(_) => {
-            let after = c.placed();
+            let s = c.placed();
+            let after = s.call;
             Placed {
                 record_number: r,
                 use_number: after.use_number,
@@ -75,7 +76,10 @@ fn record_after(a: routing::Answer, c: Call) -> Call
 {
     let o = a.outcome;
     match o {
-        Outcome::Routed(_) => c.placed(),
+        Outcome::Routed(_) => {
+            let s = c.placed();
+            s.call
+        }
         Outcome::Refused(_) => c,
     }
 }

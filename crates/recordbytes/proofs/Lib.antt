@@ -1,6 +1,4 @@
-pub mod Exact
-pub mod Kept
 pub mod Places
-pub mod Among
-pub mod Records
 pub mod Steps
+pub mod AsStep
+pub mod Exact

@@ -1,49 +1,52 @@
--- Where the parts of a record stand in its bytes, and what the parts of the code leave of them. Only contracts of private functions go by this. Assumes nothing.
-use Prim.Native.Nat.{ℕ, _+_, _*_, _-_}
-use mathlib.Core.Bool.{Bool, cond, not}
-use mathlib.Core.List.{List, [], _∷_, _++_}
-use lib.Dec.{eqb}
-use lib.ListN.{getD, set, take, drop}
-use lib.Seq.{sets}
-use Rattle.typeset.specs.Sets.{some}
+-- What the parts of the code leave of the bytes, in the words of Steps. Only contracts of private functions go by this. Assumes nothing.
+use Prim.Native.Nat.{ℕ, _+_}
+use mathlib.Core.Bool.{cond}
+use mathlib.Core.List.{List, [], _∷_}
+use lib.Dec.{leb}
+use lib.ListN.{getD}
+use Rattle.refusal.specs.declared.Refusal.the-variants.{BrokenRecord}
 use Rattle.ends.specs.declared.End.{End}
+use Rattle.ends.specs.declared.Status.{Status}
 use Rattle.ends.specs.declared.Signal.{Signal}
-use Rattle.call.specs.declared.Call.{Call}
-use Rattle.call.specs.declared.Step.{Step}
+use Rattle.ends.specs.declared.Signal.the-variants.{Upack, Ordinary, Teardown, Downack}
+use Rattle.ends.specs.declared.Verdict.{Verdict}
+use Rattle.ends.specs.declared.Verdict.the-variants.{Refuse as refuse, Become as become}
 use Rattle.call.specs.declared.Side.{Side}
 use Rattle.call.specs.declared.Side.the-variants.{Caller, Callee}
-use Rattle.call.specs.Protocol.{other, queueTo, moved}
-use Rattle.call.specs.History.{accepted}
-use Rattle.callbytes.specs.Codec.{slotBytes, callBytes, callIn}
+use Rattle.call.specs.declared.Command.{Command}
+use Rattle.call.specs.declared.Answer.the-variants.{Accepted, Delivered}
+use Rattle.call.specs.Protocol.{other, judged}
+use Rattle.recordbytes.specs.Records.{queuePlace, callAt}
+use Rattle.recordbytes.specs.Steps.{Stepped, refusingAt, settledAt, pushedAt, pushesAt, poppedAt, outcomeAt}
 
--- the record of the 102 bytes from a place on, which are there
-abbrev pub recordFrom : List ℕ → ℕ → Call
-recordFrom b at = callIn (drop at b)
+-- the step of a record whose counts are at most 16
+abbrev pub actedAt : List ℕ → ℕ → Command → Stepped
+actedAt b at k = outcomeAt b at k (judged (callAt b at) k)
 
--- where a side's state stands in a record, and where the queue towards it begins, with its count
-abbrev pub statePlace : Side → ℕ
-statePlace Caller = 0
-statePlace Callee = 1
+-- a side's end goes on by a verdict and sends one signal, where there is room for it
+abbrev pub oneSentAt : List ℕ → ℕ → Side → Verdict → Signal → Stepped
+oneSentAt b at s (refuse r) x = refusingAt b r
+oneSentAt b at s (become e) x =
+    cond (leb (getD b (at + queuePlace (other s)) 0 + 1) 16)
+    (record { answer = Accepted; bytes = pushedAt (settledAt b at s e) (at + queuePlace (other s)) x }) (refusingAt b BrokenRecord)
 
-abbrev pub queuePlace : Side → ℕ
-queuePlace Caller = 4
-queuePlace Callee = 53
+-- the callee goes on by a verdict and sends upack, a status and teardown, where there is room for the three
+abbrev pub threeSentAt : List ℕ → ℕ → Verdict → Status → Stepped
+threeSentAt b at (refuse r) x = refusingAt b r
+threeSentAt b at (become e) x =
+    cond (leb (getD b (at + queuePlace Caller) 0 + 3) 16)
+    (record { answer = Accepted; bytes = pushesAt (settledAt b at Callee e) (at + queuePlace Caller) (Upack ∷ Ordinary 0 x ∷ Teardown ∷ []) })
+    (refusingAt b BrokenRecord)
 
--- the record with one end replaced
-abbrev pub withEnd : Side → End → Call → Call
-withEnd s e c = moved s e (queueTo s c) (queueTo (other s) c) c
+-- a side's end goes on, and the head of the queue towards it goes out
+abbrev pub givenAt : List ℕ → ℕ → Side → End → List ℕ
+givenAt b at s e = poppedAt (settledAt b at s e) (at + queuePlace s)
 
--- one of the 48 bytes from a place on is not 0
-unfoldable pub someSet : List ℕ → ℕ → Bool
-someSet b at = some 48 (λ i. not (eqb (getD b (at + i) 0) 0))
-
--- a signal put into the queue at q, at its count; and its head taken out, with all that follow one place down and the last place blank
-unfoldable pub pushedAt : List ℕ → ℕ → Signal → List ℕ
-pushedAt b q x = set (sets b (q + 1 + 3 * getD b q 0) (slotBytes (record { signal = x }))) q (getD b q 0 + 1)
-
-unfoldable pub poppedAt : List ℕ → ℕ → List ℕ
-poppedAt b q = set (sets b (q + 1) (take 45 (drop (q + 4) b) ++ (0 ∷ 0 ∷ 0 ∷ []))) q (getD b q 0 - 1)
-
--- the record from a place on is the one after a step that is accepted
-abbrev pub storedBy : Step → List ℕ → ℕ → List ℕ
-storedBy s b at = cond (accepted (s .answer)) (sets b at (callBytes (s .call))) b
+-- a signal handed over, and a teardown answered by a downack, where there is room for it
+abbrev pub repliedAt : List ℕ → ℕ → Side → End → Signal → Stepped
+repliedAt b at s e Upack = record { answer = Delivered Upack; bytes = givenAt b at s e }
+repliedAt b at s e (Ordinary tunnel x) = record { answer = Delivered (Ordinary tunnel x); bytes = givenAt b at s e }
+repliedAt b at s e Downack = record { answer = Delivered Downack; bytes = givenAt b at s e }
+repliedAt b at s e Teardown =
+    cond (leb (getD b (at + queuePlace (other s)) 0 + 1) 16)
+    (record { answer = Delivered Teardown; bytes = pushedAt (givenAt b at s e) (at + queuePlace (other s)) Downack }) (refusingAt b BrokenRecord)

@@ -1,3 +1,4 @@
 pub mod Rows
 pub mod Turns
+pub mod Operations
 pub mod Exact

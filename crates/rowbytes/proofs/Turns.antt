@@ -1,94 +1,108 @@
 -- That what the code makes of one record's bytes is a turn of the row: a command, or a call placed. Assumes nothing.
-use mathlib.Core.Path.{_≡_, refl, sym, ap, _∙_}
+use mathlib.Core.Path.{_≡_, refl, sym, ap, subst, _∙_}
 use mathlib.Core.Bool.{Bool, true, false, cond, not}
-use mathlib.Core.List.{List, [], _∷_, append-nil}
-use Prim.Native.Nat.{ℕ, _+_, _*_, _≤_, _<_}
+use mathlib.Core.List.{List, [], _∷_}
+use Prim.Native.Nat.{ℕ, _+_, _*_, _%_, _≤_, _<_}
 use native.Mathlib.Omega.{arith}
-use lib.ListN.{length, set, drop-of-length-le}
-use lib.Seq.{sets-eq, set-getD}
-use lib.Dec.{T as Holds, eqb}
-use borrow.Author.Tests.{lt-ltb, le-ltb}
+use lib.ListN.{length, set}
+use lib.Seq.{set-getD, length-sets}
+use lib.Dec.{T as Holds, eqb, ltb}
+use borrow.Author.Tests.{lt-ltb, le-ltb, ltb-true, le-leb}
 use Rattle.refusal.specs.declared.Refusal.{Refusal}
-use Rattle.refusal.specs.declared.Refusal.the-variants.{NoSuchCall, RowTooLong}
+use Rattle.refusal.specs.declared.Refusal.the-variants.{NoSuchCall, RowTooLong, NoFreeRecord}
 use Rattle.plan.specs.declared.Plan.{Plan}
 use Rattle.setup.specs.declared.Setup.{Setup}
 use Rattle.routing.specs.declared.Callee.{Callee}
 use Rattle.routing.specs.declared.Outcome.{Outcome}
 use Rattle.routing.specs.declared.Outcome.the-variants as outcome
 use Rattle.routing.specs.declared.Later.{Later}
+use Rattle.routing.specs.declared.Later.the-variants.{Nothing, Refuse}
 use Rattle.routing.specs.declared.Answer.{Answer}
 use Rattle.routing.specs.Routing.{outcomeBy, answerBy}
 use Rattle.routing.proofs.Zoned.{answer-outcome}
 use Rattle.ends.specs.declared.State.the-variants.{Requesting, Waiting}
 use Rattle.call.specs.declared.Call.{Call}
 use Rattle.call.specs.declared.Command.{Command}
+use Rattle.call.specs.declared.Command.the-variants.{Accept, Busy, Unobtainable, Send, Teardown as Hang-up, Deliver}
+use Rattle.ends.specs.declared.Signal.{Signal}
+use Rattle.ends.specs.declared.Verdict.{Verdict}
+use Rattle.ends.specs.declared.Verdict.the-variants.{Refuse as refuse, Become as become}
+use Rattle.routing.specs.Places.{isRouted}
+use Rattle.typeset.proofs.Bools.{clash}
 use Rattle.call.specs.declared.Step.{Step}
 use Rattle.call.specs.declared.Answer as said
 use Rattle.call.specs.declared.Answer.the-variants.{Refused}
-use Rattle.call.specs.Protocol.{step, cleared, isFree, placed, quiet, nextUse}
+use Rattle.call.specs.Protocol.{actor, waiting, hands, verdict, step, isFree, nextUse}
 use Rattle.call.specs.History.{accepted}
-use Rattle.call.specs.Row.{Turn, says, command, recordAt, lowestFree, refuses, put, turn}
-use Rattle.teardown.proofs.Theorem.{refusedSame}
+use Rattle.call.specs.Row.{Turn, says, command, place, placeAt, recordAt, lowestFree, refuses, put, turn, granted}
 use Rattle.placing.specs.declared.Placed.{Placed}
-use Rattle.placing.specs.Rows.{laterBy, laterFor, outcomeInBy, answerInBy, turned, placedInBy, rowAfterBy}
-use Rattle.routing.specs.Places.{isRouted}
-use Rattle.placing.specs.Parts.{answerFor, answerBy as answered}
-use Rattle.placing.proofs.Settles.{routing-to, refusing-by, came-by, places, port-places, answers-placed-by, port-placed-by}
-use Rattle.callbytes.specs.Codec.{callBytes, callIn, callAt, putAt, Fits}
-use Rattle.callbytes.proofs.RoundTrip.{call-length, there-and-back}
-use Rattle.recordbytes.specs.Steps.{steppedAt}
-use Rattle.rowbytes.specs.Rows.{recordsIn, rowIn, putIn, after, portCommanded, portAfter}
-use Rattle.rowbytes.specs.Parts.{keptBy, portKeptBy}
-use Rattle.rowbytes.proofs.Rows.{row-length, record-in, port-record, row-stored, put-read, put-in}
-
--- ---- a refusal keeps the record
-
-not-true : (t : Bool) → t ≡ false → Holds (not t)
-not-true false e = tt
-not-true true e = let z : _≡_ {A = ℕ} 0 1 = cc in absurd (omega arith)
-
-step-kept : (c : Call) (k : Command) → accepted (step c k .answer) ≡ false → step c k .call ≡ c
-step-kept c k e = refusedSame c k (not-true (accepted (step c k .answer)) e)
+use Rattle.placing.specs.Rows.{laterBy, laterFor, outcomeInBy, answerInBy, turned, answered, placedInBy, rowAfterBy}
+use Rattle.placing.proofs.Settles.{routing-to, refusing-by, came-by, places}
+use Rattle.recordbytes.specs.Records.{callAt}
+use Rattle.recordbytes.specs.Steps.{Stepped, outcomeAt, stepAt, commandAt}
+use Rattle.recordbytes.proofs.AsStep.{as-step, only-the-record}
+use Rattle.rowbytes.specs.Rows.{recordsIn, records, rowIn, commandedIn, placedBytes, placedBy}
+use Rattle.rowbytes.specs.Parts.{putPlaced}
+use Rattle.rowbytes.proofs.Rows.{row-length, inside, record-in, row-changed, row-placed-in, put-in}
 
 -- ---- a command
 
--- the record r is the one after a step that is accepted
-abbrev settledBy : List ℕ → ℕ → Step → List ℕ
-settledBy b r s = cond (accepted (s .answer)) (putIn b r (s .call)) b
+-- what is refused leaves the bytes
+kept-by : (b : List ℕ) (at : ℕ) (k : Command) → stepAt b at k .bytes ≡ cond (accepted (stepAt b at k .answer)) (stepAt b at k .bytes) b
+kept-by b at k = by (verdict (callAt b at) k)
+  where
+    handed : (k : Command) (w : List Signal) → accepted (hands k w) ≡ true
+    handed Accept w = refl
+    handed Busy w = refl
+    handed Unobtainable w = refl
+    handed (Send s t x) w = refl
+    handed (Hang-up s) w = refl
+    handed (Deliver s) [] = refl
+    handed (Deliver s) (x ∷ w) = refl
 
-module _ (b : List ℕ) (r : ℕ) (k : Command) where
-  abbrev s : Step
-  s = step (recordAt (rowIn b) r) k
+    by : (v : Verdict) → outcomeAt b at k v .bytes ≡ cond (accepted (outcomeAt b at k v .answer)) (outcomeAt b at k v .bytes) b
+    by (refuse r) = refl
+    by (become e) = rw (handed k (waiting (actor k) (callAt b at))) refl
 
-  bytes-after : settledBy b r s ≡ after b r (put (rowIn b) r s)
-  bytes-after = ap (λ (x : List ℕ). cond (accepted (s .answer)) x b) (sym (put-read b r (s .call)))
+module _ (b : List ℕ) (r : ℕ) (k : Command) (in-row : r < recordsIn b) where
+  abbrev it : Stepped
+  it = stepAt b (102 * r) k
 
-  row-after : Fits (s .call) → rowIn (settledBy b r s) ≡ set (rowIn b) r (s .call)
-  row-after f = by (accepted (s .answer)) refl
-    where
-      by : (t : Bool) → accepted (s .answer) ≡ t → rowIn (cond (accepted (s .answer)) (putIn b r (s .call)) b) ≡ set (rowIn b) r (s .call)
-      by true e = ap (λ (x : Bool). rowIn (cond x (putIn b r (s .call)) b)) e ∙ row-stored (s .call) f b r
-      by false e =
-          ap (λ (x : Bool). rowIn (cond x (putIn b r (s .call)) b)) e
-          ∙ sym (ap (set (rowIn b) r) (step-kept (recordAt (rowIn b) r) k e) ∙ set-getD (rowIn b) r cleared)
+  here : callAt b (102 * r) ≡ recordAt (rowIn b) r
+  here = record-in b r in-row
+
+  pub answer-read : it .answer ≡ step (recordAt (rowIn b) r) k .answer
+  answer-read = as-step b (102 * r) k (inside b r in-row) .0 ∙ ap (λ (c : Call). step c k .answer) here
+
+  -- the row afterwards, accepted or not
+  pub row-stepped : rowIn (it .bytes) ≡ set (rowIn b) r (step (recordAt (rowIn b) r) k .call)
+  row-stepped =
+      let only = only-the-record b (102 * r) k (inside b r in-row) in
+      row-changed b (it .bytes) r in-row (only .0) (only .1) ∙ ap (set (rowIn b) r) (as-step b (102 * r) k (inside b r in-row) .1 ∙ ap (λ (c : Call). step c k .call) here)
+
+  pub row-granted : rowIn (cond (accepted (step (recordAt (rowIn b) r) k .answer)) (it .bytes) b) ≡ set (rowIn b) r (step (recordAt (rowIn b) r) k .call)
+  row-granted = ap rowIn (sym (kept-by b (102 * r) k ∙ ap (λ (y : Bool). cond y (it .bytes) b) (ap accepted answer-read))) ∙ row-stepped
 
 -- what the code makes of the row is the turn that the command is
 module _ (b : List ℕ) (r u : ℕ) (k : Command) where
   abbrev t : Turn
   t = turn (rowIn b) (command r u k)
 
-  refused-by : (x : Refusal) → t ≡ refuses x (rowIn b) → (says (Refused x) ≡ t .reply) × (b ≡ after b r t) × (rowIn b ≡ t .row)
-  refused-by x e = (ap (λ (y : Turn). y .reply) (sym e), ap (after b r) (sym e), ap (λ (y : Turn). y .row) (sym e))
+  abbrev Turns : said.Answer → List ℕ → Type 0
+  Turns x z = (says x ≡ t .reply) × (z ≡ commandedIn b r u k) × (rowIn z ≡ t .row)
 
-  pub too-long : 1024 < recordsIn b → (says (Refused RowTooLong) ≡ t .reply) × (b ≡ after b r t) × (rowIn b ≡ t .row)
+  refused-by : (x : Refusal) → t ≡ refuses x (rowIn b) → Turns (Refused x) b
+  refused-by x e = (ap (λ (y : Turn). y .reply) (sym e), rw e refl, ap (λ (y : Turn). y .row) (sym e))
+
+  pub too-long : 1024 < recordsIn b → Turns (Refused RowTooLong) b
   too-long h = refused-by RowTooLong (rw (row-length b, lt-ltb 1024 (recordsIn b) h) refl)
 
   module _ (few : recordsIn b ≤ 1024) where
-    pub past-row : recordsIn b ≤ r → (says (Refused NoSuchCall) ≡ t .reply) × (b ≡ after b r t) × (rowIn b ≡ t .row)
+    pub past-row : recordsIn b ≤ r → Turns (Refused NoSuchCall) b
     past-row h = refused-by NoSuchCall (rw (row-length b, le-ltb 1024 (recordsIn b) few, le-ltb r (recordsIn b) h) refl)
 
     module _ (in-row : r < recordsIn b) where
-      pub free-record : isFree (callAt b (102 * r)) ≡ true → (says (Refused NoSuchCall) ≡ t .reply) × (b ≡ after b r t) × (rowIn b ≡ t .row)
+      pub free-record : isFree (callAt b (102 * r)) ≡ true → Turns (Refused NoSuchCall) b
       free-record e =
           let free : isFree (recordAt (rowIn b) r) ≡ true = ap isFree (sym (record-in b r in-row)) ∙ e in
           refused-by NoSuchCall (rw (row-length b, le-ltb 1024 (recordsIn b) few, lt-ltb r (recordsIn b) in-row, free) refl)
@@ -97,28 +111,44 @@ module _ (b : List ℕ) (r u : ℕ) (k : Command) where
         is-taken : isFree (recordAt (rowIn b) r) ≡ false
         is-taken = ap isFree (sym (record-in b r in-row)) ∙ taken
 
-        pub other-use : eqb n u ≡ false → (says (Refused NoSuchCall) ≡ t .reply) × (b ≡ after b r t) × (rowIn b ≡ t .row)
+        pub other-use : eqb n u ≡ false → Turns (Refused NoSuchCall) b
         other-use e =
             let differs : eqb (recordAt (rowIn b) r .«use_number») u ≡ false = ap (λ (x : ℕ). eqb x u) (sym en) ∙ e in
             refused-by NoSuchCall (rw (row-length b, le-ltb 1024 (recordsIn b) few, lt-ltb r (recordsIn b) in-row, is-taken, differs) refl)
 
-        pub stepped-in : eqb n u ≡ true → {x : said.Answer} {z : List ℕ} → x ≡ step (callAt b (102 * r)) k .answer → z ≡ steppedAt b (102 * r) k → Fits (step (callAt b (102 * r)) k .call)
-            → (says x ≡ t .reply) × (z ≡ after b r t) × (rowIn z ≡ t .row)
-        stepped-in e {x} {z} ex ez f =
+        pub stepped-in : eqb n u ≡ true → {x : said.Answer} {z : List ℕ} → x ≡ commandAt b (102 * r) k .answer → z ≡ commandAt b (102 * r) k .bytes → Turns x z
+        stepped-in e {x} {z} ex ez =
             let same : eqb (recordAt (rowIn b) r .«use_number») u ≡ true = ap (λ (y : ℕ). eqb y u) (sym en) ∙ e in
             let so : t ≡ put (rowIn b) r (step (recordAt (rowIn b) r) k) = rw (row-length b, le-ltb 1024 (recordsIn b) few, lt-ltb r (recordsIn b) in-row, is-taken, same) refl in
-            let here : callAt b (102 * r) ≡ recordAt (rowIn b) r = record-in b r in-row in
-            let fits : Fits (step (recordAt (rowIn b) r) k .call) = rw here at f in
-            let settled : z ≡ settledBy b r (step (recordAt (rowIn b) r) k) = ez ∙ rw (here, put-in b r (step (recordAt (rowIn b) r) k .call) in-row) refl in (
-              ap says ex ∙ rw here (ap (λ (y : Turn). y .reply) (sym so)),
-              settled ∙ bytes-after b r k ∙ ap (after b r) (sym so),
-              ap rowIn settled ∙ row-after b r k fits ∙ ap (λ (y : Turn). y .row) (sym so),
+            let whole : commandAt b (102 * r) k ≡ stepAt b (102 * r) k = rw (le-leb (102 * r + 102) (length b) (inside b r in-row)) refl in
+            let answer : x ≡ step (recordAt (rowIn b) r) k .answer = ex ∙ ap (λ (y : Stepped). y .answer) whole ∙ answer-read b r k in-row in
+            let bytes : z ≡ stepAt b (102 * r) k .bytes = ez ∙ ap (λ (y : Stepped). y .bytes) whole in
+            let reply : says x ≡ t .reply = ap says answer ∙ ap (λ (y : Turn). y .reply) (sym so) in (
+              reply,
+              bytes ∙ kept-by b (102 * r) k ∙ ap (λ (y : Bool). cond y (stepAt b (102 * r) k .bytes) b) (ap accepted (answer-read b r k in-row) ∙ ap (λ (y : Turn). granted (y .reply)) (sym so)),
+              ap rowIn bytes ∙ row-stepped b r k in-row ∙ ap (λ (y : Turn). y .row) (sym so),
             )
 
 -- ---- a call placed
 
-pub placed-fits : (c : Call) → Fits (placed c)
-placed-fits c = record { use-fits = omega arith; waiting-places = refl; coming-places = refl }
+-- a row that refuses nothing by itself has a free record
+abbrev refusing : Later → Bool
+refusing Nothing = false
+refusing (Refuse x) = true
+
+free-there : (row : List Call) → laterFor row ≡ Nothing → lowestFree row < length row
+free-there row none = by (ltb 1024 (length row)) (ltb (lowestFree row) (length row)) refl none
+  where
+    by : (long free : Bool) → ltb (lowestFree row) (length row) ≡ free → cond long (Refuse RowTooLong) (cond free Nothing (Refuse NoFreeRecord)) ≡ Nothing → lowestFree row < length row
+    by long true e h = ltb-true (lowestFree row) (length row) e
+    by true false e h = absurd (clash refl (ap refusing h))
+    by false false e h = absurd (clash refl (ap refusing h))
+
+pub not-routed : {c : Callee} {y : Refusal} → outcome.Refused y ≡ outcome.Routed c → ⊥
+not-routed e = clash refl (ap isRouted (sym e))
+
+next-fits : (c : Call) → nextUse (c .«use_number») < 65536
+next-fits c = omega arith
 
 module _ (kept : Bool) (b : List ℕ) (p : Plan) (x : Setup) (n m : ℕ) where
   abbrev row : List Call
@@ -130,15 +160,23 @@ module _ (kept : Bool) (b : List ℕ) (p : Plan) (x : Setup) (n m : ℕ) where
   abbrev o : Outcome
   o = outcomeInBy kept row p x n m
 
-  pub bytes-placed : keptBy o b free (recordAt row free) ≡ after b free (turned row o)
-  bytes-placed = elim (came-by kept row p x n m) as (λ _. keptBy (outcomeInBy kept row p x n m) b free (recordAt row free) ≡ after b free (turned row (outcomeInBy kept row p x n m))) [
-    | routing-to c none e ↦ rw (e, places row none) (sym (put-read b free (placed (recordAt row free))))
-    | refusing-by y e ↦ rw e refl
+  -- a routed call: what is answered, and the bytes that are put
+  pub answer-placed : (c : Callee) → o ≡ outcome.Routed c → record { «record_number» = free; «use_number» = nextUse (recordAt row free .«use_number»); routed = answerInBy kept row p x n m } ≡ placedInBy kept row p x n m
+  answer-placed c routed = elim (came-by kept row p x n m) as (λ _. record { «record_number» = free; «use_number» = nextUse (recordAt row free .«use_number»); routed = answerInBy kept row p x n m } ≡ answered (turned row (outcomeInBy kept row p x n m) .reply) (answerInBy kept row p x n m)) [
+    | routing-to d none e ↦ rw (e, places row none) refl
+    | refusing-by y e ↦ absurd (not-routed (sym e ∙ routed))
   ]
 
-  pub row-placed : rowIn (keptBy o b free (recordAt row free)) ≡ rowAfterBy kept row p x n m
-  row-placed = elim (came-by kept row p x n m) as (λ _. rowIn (keptBy (outcomeInBy kept row p x n m) b free (recordAt row free)) ≡ turned row (outcomeInBy kept row p x n m) .row) [
-    | routing-to c none e ↦ rw (e, places row none) (row-stored (placed (recordAt row free)) (placed-fits (recordAt row free)) b free)
+  pub bytes-placed : (c : Callee) → o ≡ outcome.Routed c → putPlaced b free (nextUse (recordAt row free .«use_number»)) ≡ placedBy (turned row o .reply) b
+  bytes-placed c routed = elim (came-by kept row p x n m) as (λ _. putPlaced b free (nextUse (recordAt row free .«use_number»)) ≡ placedBy (turned row (outcomeInBy kept row p x n m) .reply) b) [
+    | routing-to d none e ↦ rw (e, places row none) (sym (put-in b free (nextUse (recordAt row free .«use_number»)) (subst (λ (k : ℕ). free < k) (row-length b) (free-there row none))))
+    | refusing-by y e ↦ absurd (not-routed (sym e ∙ routed))
+  ]
+
+  pub row-placed : rowIn (placedBy (turned row o .reply) b) ≡ rowAfterBy kept row p x n m
+  row-placed = elim (came-by kept row p x n m) as (λ _. rowIn (placedBy (turned row (outcomeInBy kept row p x n m) .reply) b) ≡ turned row (outcomeInBy kept row p x n m) .row) [
+    | routing-to c none e ↦
+        rw (e, places row none) (row-placed-in b free (nextUse (recordAt row free .«use_number»)) (subst (λ (k : ℕ). free < k) (row-length b) (free-there row none)) (next-fits (recordAt row free)))
     | refusing-by y e ↦ rw e refl
   ]
 
@@ -156,105 +194,41 @@ module _ (kept : Bool) (b : List ℕ) (p : Plan) (x : Setup) (n m : ℕ) {r : �
   said-is : a .outcome ≡ outcomeInBy kept (rowIn b) p x n m
   said-is = ap (λ (y : Answer). y .outcome) answer-is ∙ answer-outcome kept p x (laterFor (rowIn b)) n m
 
-  place-is : {z : List ℕ} {w : Placed} → z ≡ keptBy (a .outcome) b r (recordAt (rowIn b) r) → w ≡ answerFor a r (recordAt (rowIn b) r)
-      → (w ≡ placedInBy kept (rowIn b) p x n m) × (z ≡ after b (lowestFree (rowIn b)) (turned (rowIn b) (outcomeInBy kept (rowIn b) p x n m))) × (rowIn z ≡ rowAfterBy kept (rowIn b) p x n m)
-  place-is {z} {w} ez ew =
-      let held-as : z ≡ keptBy (outcomeInBy kept (rowIn b) p x n m) b (lowestFree (rowIn b)) (recordAt (rowIn b) (lowestFree (rowIn b))) = ez ∙ rw (said-is, er) refl in (
-        ew ∙ rw (answer-is, er) (answers-placed-by (rowIn b) p x n m kept),
-        held-as ∙ bytes-placed kept b p x n m,
-        ap rowIn held-as ∙ row-placed kept b p x n m,
-      )
+  abbrev Places : Placed → List ℕ → Type 0
+  Places w z = (w ≡ placedInBy kept (rowIn b) p x n m) × (z ≡ placedBy (turned (rowIn b) (outcomeInBy kept (rowIn b) p x n m) .reply) b) × (rowIn z ≡ rowAfterBy kept (rowIn b) p x n m)
+
+  place-is : {z : List ℕ} {w : Placed} → w ≡ placedInBy kept (rowIn b) p x n m → z ≡ placedBy (turned (rowIn b) (outcomeInBy kept (rowIn b) p x n m) .reply) b → Places w z
+  place-is ew ez = (ew, ez, ap rowIn ez ∙ row-placed kept b p x n m)
 
   -- routed: a call is stored under the next use number of the record, and the record is named
-  pub routed-is : {y : Callee} {u : ℕ} {z : List ℕ} {w : Placed} → a .outcome ≡ outcome.Routed y → u ≡ nextUse (recordAt (rowIn b) r .«use_number») → z ≡ putIn b r (quiet Requesting Waiting u)
-      → w ≡ record { «record_number» = r; «use_number» = u; routed = a }
-      → (w ≡ placedInBy kept (rowIn b) p x n m) × (z ≡ after b (lowestFree (rowIn b)) (turned (rowIn b) (outcomeInBy kept (rowIn b) p x n m))) × (rowIn z ≡ rowAfterBy kept (rowIn b) p x n m)
-  routed-is eo eu ez ew = place-is (ez ∙ rw (eo, eu) refl) (ew ∙ rw (eo, eu) refl)
+  pub routed-is : {y : Callee} {u : ℕ} {z : List ℕ} {w : Placed} → a .outcome ≡ outcome.Routed y → u ≡ nextUse (recordAt (rowIn b) r .«use_number») → z ≡ putPlaced b r u
+      → w ≡ record { «record_number» = r; «use_number» = u; routed = a } → Places w z
+  routed-is {y} eo eu ez ew =
+      let routed = sym said-is ∙ eo in
+      place-is (ew ∙ rw (eu, er, answer-is) (answer-placed kept b p x n m y routed)) (ez ∙ rw (eu, er) (bytes-placed kept b p x n m y routed))
 
   -- refused: nothing is stored
-  pub refused-is : {y : Refusal} {w : Placed} → a .outcome ≡ outcome.Refused y → w ≡ record { «record_number» = 0; «use_number» = 0; routed = a }
-      → (w ≡ placedInBy kept (rowIn b) p x n m) × (b ≡ after b (lowestFree (rowIn b)) (turned (rowIn b) (outcomeInBy kept (rowIn b) p x n m))) × (rowIn b ≡ rowAfterBy kept (rowIn b) p x n m)
-  refused-is eo ew = place-is (rw eo refl) (ew ∙ rw eo refl)
+  pub refused-is : {y : Refusal} {w : Placed} → a .outcome ≡ outcome.Refused y → w ≡ record { «record_number» = 0; «use_number» = 0; routed = a } → Places w b
+  refused-is {y} eo ew =
+      let refused = sym said-is ∙ eo in
+      place-is (ew ∙ rw (refused, answer-is) refl) (rw refused refl)
 
--- ---- a port
+-- ---- a port is a row of one
 
-pub comes-back : (c : Call) → Fits c → callIn (callBytes c) ≡ c
-comes-back c f = ap callIn (sym (append-nil (callBytes c))) ∙ there-and-back c f []
+pub one-record : (b : List ℕ) → length b ≡ 102 → rowIn b ≡ callAt b 0 ∷ []
+unfolding rowIn records
+one-record b long = rw long refl
 
-module _ (kept : Bool) (b : List ℕ) (p : Plan) (x : Setup) (n m : ℕ) where
-  abbrev one : List Call
-  one = callIn b ∷ []
-
-  pub port-bytes : portKeptBy (outcomeInBy kept one p x n m) b (callIn b) ≡ portAfter b (turned one (outcomeInBy kept one p x n m))
-  port-bytes = elim (came-by kept one p x n m) as (λ _. portKeptBy (outcomeInBy kept one p x n m) b (callIn b) ≡ portAfter b (turned one (outcomeInBy kept one p x n m))) [
-    | routing-to c none e ↦ rw (e, port-places (callIn b) p x n m none) refl
-    | refusing-by y e ↦ rw e refl
-  ]
-
-  pub port-call : callIn (portKeptBy (outcomeInBy kept one p x n m) b (callIn b)) ≡ recordAt (rowAfterBy kept one p x n m) 0
-  port-call = elim (came-by kept one p x n m) as (λ _. callIn (portKeptBy (outcomeInBy kept one p x n m) b (callIn b)) ≡ recordAt (turned one (outcomeInBy kept one p x n m) .row) 0) [
-    | routing-to c none e ↦ rw (e, port-places (callIn b) p x n m none) (comes-back (placed (callIn b)) (placed-fits (callIn b)))
-    | refusing-by y e ↦ rw e refl
-  ]
-
--- what the calls of `port_place` come to
-module _ (kept : Bool) (b : List ℕ) (p : Plan) (x : Setup) (n m : ℕ) {c : Call} {l : Later} {a : Answer} (ec : c ≡ callIn b) (el : l ≡ laterFor (c ∷ [])) (ea : a ≡ answerBy kept p x l n m) where
-  port-later-is : l ≡ laterFor (callIn b ∷ [])
-  port-later-is = el ∙ rw ec refl
-
-  port-answer-is : a ≡ answerInBy kept (callIn b ∷ []) p x n m
-  port-answer-is = ea ∙ rw port-later-is refl
-
-  pub port-outcome-is : outcomeBy kept p x l n m ≡ outcomeInBy kept (callIn b ∷ []) p x n m
-  port-outcome-is = rw port-later-is refl
-
-  port-said-is : a .outcome ≡ outcomeInBy kept (callIn b ∷ []) p x n m
-  port-said-is = ap (λ (y : Answer). y .outcome) port-answer-is ∙ answer-outcome kept p x (laterFor (callIn b ∷ [])) n m
-
-  pub port-place-is : {z : List ℕ} {w : Placed} → z ≡ portKeptBy (a .outcome) b c → w ≡ answerFor a 0 c
-      → (w ≡ placedInBy kept (callIn b ∷ []) p x n m) × (z ≡ portAfter b (turned (callIn b ∷ []) (outcomeInBy kept (callIn b ∷ []) p x n m))) × (callIn z ≡ recordAt (rowAfterBy kept (callIn b ∷ []) p x n m) 0)
-  port-place-is {z} {w} ez ew =
-      let held-as : z ≡ portKeptBy (outcomeInBy kept (callIn b ∷ []) p x n m) b (callIn b) = ez ∙ rw (port-said-is, ec) refl in (
-        ew ∙ rw (port-answer-is, ec) (port-placed-by (callIn b) p x n m kept),
-        held-as ∙ port-bytes kept b p x n m,
-        ap callIn held-as ∙ port-call kept b p x n m,
-      )
-
--- what the call of `port_command` comes to
 module _ (b : List ℕ) (k : Command) (long : length b ≡ 102) where
-  abbrev after-step : Step
-  after-step = step (callIn b) k
+  pub port-stepped : {x : said.Answer} {z : List ℕ} → x ≡ commandAt b 0 k .answer → z ≡ commandAt b 0 k .bytes
+      → (x ≡ step (callAt b 0) k .answer) × (z ≡ stepAt b 0 k .bytes) × (callAt z 0 ≡ step (callAt b 0) k .call)
+  port-stepped ex ez =
+      let room : 0 + 102 ≤ length b = omega (arith, long) in
+      let whole : commandAt b 0 k ≡ stepAt b 0 k = rw (le-leb (0 + 102) (length b) room) refl in
+      let bytes = ez ∙ ap (λ (y : Stepped). y .bytes) whole in
+      let read = as-step b 0 k room in
+      (ex ∙ ap (λ (y : Stepped). y .answer) whole ∙ read .0, bytes, ap (λ (y : List ℕ). callAt y 0) bytes ∙ read .1)
 
-  stored-whole : (c : Call) → Fits c → putAt b 0 c ≡ callBytes c
-  unfolding putAt
-  stored-whole c f =
-      let bytes = call-length c f in
-      let fits : 0 + length (callBytes c) ≤ length b = omega arith in
-      let over : length b ≤ 0 + length (callBytes c) = omega arith in
-      rw long (sets-eq (callBytes c) b 0 fits ∙ rw (drop-of-length-le b over) (append-nil (callBytes c)))
-
-  read-back : (t : Bool) → accepted (after-step .answer) ≡ t → Fits (after-step .call) → callIn (cond t (callBytes (after-step .call)) b) ≡ after-step .call
-  read-back true e f = comes-back (after-step .call) f
-  read-back false e f = sym (step-kept (callIn b) k e)
-
-  pub port-stepped : {x : said.Answer} {z : List ℕ} → x ≡ step (callAt b 0) k .answer → z ≡ steppedAt b 0 k → Fits (step (callAt b 0) k .call)
-      → (x ≡ after-step .answer) × (z ≡ portCommanded b k) × (callIn z ≡ after-step .call)
-  port-stepped {x} {z} ex ez f =
-      let here : callAt b 0 ≡ callIn b = port-record b long in
-      let fits : Fits (after-step .call) = rw here at f in
-      let settled : z ≡ portCommanded b k = ez ∙ rw here (ap (λ (y : List ℕ). cond (accepted (after-step .answer)) y b) (stored-whole (after-step .call) fits)) in
-      (ex ∙ rw here refl, settled, ap callIn settled ∙ read-back (accepted (after-step .answer)) refl fits)
-
--- ---- a refusal, whatever is shown
-
--- what a placing answers has what routing gave in it
-pub answer-routed : (a : Answer) (r : ℕ) (c : Call) {z : Placed} → z ≡ answerFor a r c → z .routed ≡ a
-answer-routed a r c e = ap (λ (y : Placed). y .routed) e ∙ by (a .outcome)
-  where
-    by : (o : Outcome) → answered o a r c .routed ≡ a
-    by (outcome.Routed x) = refl
-    by (outcome.Refused x) = refl
-
-pub port-unchanged : (o : Outcome) (b : List ℕ) (c : Call) → isRouted o ≡ false → portKeptBy o b c ≡ b
-port-unchanged (outcome.Routed x) b c e = let z : _≡_ {A = ℕ} 0 1 = cc in absurd (omega arith)
-port-unchanged (outcome.Refused x) b c e = refl
+-- the record of the row of one that is left
+pub one-left : (z : List ℕ) {row : List Call} → length z ≡ 102 → rowIn z ≡ row → callAt z 0 ≡ recordAt row 0
+one-left z long e = ap (λ (l : List Call). recordAt l 0) (sym (one-record z long) ∙ e)

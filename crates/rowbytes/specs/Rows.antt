@@ -1,17 +1,17 @@
--- A row of calls in lent bytes, 102 to a record, for programs in other languages: which records some bytes hold, and what placing and commands leave of the bytes.
--- Bytes past the last whole record belong to none. Assumes nothing.
-use Prim.Native.Nat.{ℕ, zero, suc, _*_, _/_}
+-- A ROW OF CALLS IN LENT BYTES, 102 to a record, for programs in other languages: which records some bytes hold, and what clearing, commands and placing leave of the bytes.
+-- Bytes past the last whole record belong to none. A port is a row of one. Assumes nothing.
+use Prim.Native.Nat.{ℕ, zero, suc, _+_, _*_, _/_, _%_}
 use mathlib.Core.Bool.{cond}
 use mathlib.Core.List.{List, [], _∷_, _++_}
-use lib.Dec.{ltb}
 use lib.ListN.{length, drop, replicate}
 use lib.Seq.{sets}
+use Rattle.ends.specs.declared.State.the-variants.{Requesting, Waiting}
+use Rattle.signalbytes.specs.Numbers.{stateNumber}
 use Rattle.call.specs.declared.Call.{Call}
 use Rattle.call.specs.declared.Command.{Command}
-use Rattle.call.specs.Protocol.{cleared, step}
-use Rattle.call.specs.History.{accepted}
-use Rattle.call.specs.Row.{Turn, recordAt, granted}
-use Rattle.callbytes.specs.Codec.{callBytes, callIn}
+use Rattle.call.specs.Row.{Reply, placed-at, says, command, turn, granted}
+use Rattle.recordbytes.specs.Records.{callAt}
+use Rattle.recordbytes.specs.Steps.{stepAt}
 
 -- ---- the records of some bytes
 
@@ -19,37 +19,29 @@ use Rattle.callbytes.specs.Codec.{callBytes, callIn}
 abbrev pub recordsIn : List ℕ → ℕ
 recordsIn b = length b / 102
 
--- n records that some bytes begin with
-unfoldable pub records : ℕ → List ℕ → List Call
-records zero b = []
-records (suc n) b = callIn b ∷ records n (drop 102 b)
+-- n records, one after the other
+unfoldable pub records : ℕ → List ℕ → ℕ → List Call
+records zero b at = []
+records (suc n) b at = callAt b at ∷ records n b (at + 102)
 
 unfoldable pub rowIn : List ℕ → List Call
-rowIn b = records (recordsIn b) b
+rowIn b = records (recordsIn b) b 0
 
 -- ---- what is left of the bytes
 
--- the bytes of some records one after the other
-unfoldable pub rowBytes : List Call → List ℕ
-rowBytes [] = []
-rowBytes (c ∷ cs) = callBytes c ++ rowBytes cs
-
--- every record cleared
+-- every record cleared: 0 in all its bytes
 unfoldable pub clearedIn : List ℕ → List ℕ
-clearedIn b = rowBytes (replicate (recordsIn b) cleared) ++ drop (102 * recordsIn b) b
+clearedIn b = replicate (102 * recordsIn b) 0 ++ drop (102 * recordsIn b) b
 
--- the record r replaced, where there is one; every other byte stays
-unfoldable pub putIn : List ℕ → ℕ → Call → List ℕ
-putIn b r c = cond (ltb r (recordsIn b)) (sets b (102 * r) (callBytes c)) b
+-- A command that the row grants changes what the record's own step changes; a refusal leaves every byte.
+abbrev pub commandedIn : List ℕ → ℕ → ℕ → Command → List ℕ
+commandedIn b r u k = cond (granted (turn (rowIn b) (command r u k) .reply)) (stepAt b (102 * r) k .bytes) b
 
--- A turn of the row that is granted replaces the one record that it is about; a refusal leaves every byte, whatever it is.
-abbrev pub after : List ℕ → ℕ → Turn → List ℕ
-after b r t = cond (granted (t .reply)) (putIn b r (recordAt (t .row) r)) b
+-- A call placed under a use number: the caller requests, the callee waits, and nothing waits for either, so that all past the first four bytes is 0, whatever the record held.
+abbrev pub placedBytes : ℕ → List ℕ
+placedBytes n = stateNumber Requesting ∷ stateNumber Waiting ∷ n / 256 % 256 ∷ n % 256 ∷ replicate 98 0
 
--- ---- a port: one record of 102 bytes
-
-abbrev pub portCommanded : List ℕ → Command → List ℕ
-portCommanded b k = cond (accepted (step (callIn b) k .answer)) (callBytes (step (callIn b) k .call)) b
-
-abbrev pub portAfter : List ℕ → Turn → List ℕ
-portAfter b t = cond (granted (t .reply)) (callBytes (recordAt (t .row) 0)) b
+-- by the row's reply: the record that placing answers with; a refusal leaves every byte
+abbrev pub placedBy : Reply → List ℕ → List ℕ
+placedBy (placed-at r n) b = sets b (102 * r) (placedBytes n)
+placedBy (says a) b = b

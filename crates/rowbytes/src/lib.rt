@@ -1,7 +1,6 @@
 // A row of calls, or a port's one, in lent bytes: 102 to a record, for programs in other languages (01 'Calls'). What a record does with a command is in `recordbytes`, and placing decides by its functions of values; here a
 // record is found, and a call placed in it. Nothing else is touched, and no refusal changes a byte.
 use call::Answer;
-use call::Call;
 use call::Command;
 use placing::Placed;
 use plan::Seen;
@@ -9,9 +8,8 @@ use refusal::Refusal;
 use routing::Outcome;
 use setup::Setup;
 ghost use mathlib.Core.Path.{_≡_};
-ghost use mathlib.Core.Bool.{cond};
 ghost use mathlib.Core.List.{[], _∷_};
-ghost use Prim.Native.Nat.{_+_, _*_, _/_, _<_, _≤_};
+ghost use Prim.Native.Nat.{_+_, _<_, _≤_};
 ghost use lib.ListN.{length, replicate};
 ghost use lib.Seq.{sets};
 ghost use Rattle.plan.specs.declared.Plan.{Plan};
@@ -19,14 +17,13 @@ ghost use Rattle.plan.specs.Find.{seen};
 ghost use Rattle.routing.specs.Steps.{target1};
 ghost use Rattle.routing.specs.Routing.{sourceList, targetList};
 ghost use Rattle.routing.specs.Places.{KeptBeside};
-ghost use Rattle.ends.specs.declared.State.the-variants.{Requesting, Waiting};
-ghost use Rattle.call.specs.Protocol.{isFree, step, cleared, quiet};
-ghost use Rattle.call.specs.History.{accepted};
+ghost use Rattle.call.specs.Protocol.{isFree, step, cleared};
 ghost use Rattle.call.specs.Row.{lowestFree, recordAt, says, command as by-command, turn};
 ghost use Rattle.placing.specs.Rows.{outcomeInBy, placedInBy, rowAfterBy, turned};
-ghost use Rattle.callbytes.specs.Codec.{callIn, callAt};
-ghost use Rattle.rowbytes.specs.Rows.{recordsIn, rowIn, clearedIn, putIn, after, portCommanded, portAfter};
-ghost use Rattle.rowbytes.specs.Parts.{portKeptBy};
+ghost use Rattle.recordbytes.specs.Records.{callAt};
+ghost use Rattle.recordbytes.specs.Steps.{stepAt};
+ghost use Rattle.rowbytes.specs.Rows.{recordsIn, rowIn, clearedIn, commandedIn, placedBy};
+ghost use Rattle.rowbytes.specs.Parts.{putPlaced};
 
 // ---- a record of the row
 
@@ -62,7 +59,7 @@ fn wide(b: u8) -> u16
     b as u16
 }
 
-// The use number of a record, by its two bytes; 0 where the row has no such record. A row's operations need no more of a record than this and its states, so that none is read whole; placing reads a port's one.
+// The use number of a record, by its two bytes; 0 where the row has no such record. A row's operations need no more of a record than this and its states, so that none is read whole.
 fn use_at(row: &[u8], r: usize) -> u16
     ensures { λ u. ⌜ u ≡ recordAt (rowIn (now (row .entry))) r .«use_number» ⌝ }
 {
@@ -93,7 +90,7 @@ pub fn clear(row: &mut [u8])
 // A command for the record r and this use number.
 pub fn command(row: &mut [u8], r: usize, use_number: u16, k: Command) -> Answer
     ensures { λ z. ⌜ (says z ≡ turn (rowIn (now (row .entry))) (by-command r «use_number» k) .reply)
-        × (now (row .exit) ≡ after (now (row .entry)) r (turn (rowIn (now (row .entry))) (by-command r «use_number» k)))
+        × (now (row .exit) ≡ commandedIn (now (row .entry)) r «use_number» k)
         × (rowIn (now (row .exit)) ≡ turn (rowIn (now (row .entry))) (by-command r «use_number» k) .row) ⌝ }
 {
     let n = row.len() / 102;
@@ -128,7 +125,7 @@ fn blank(row: &mut [u8], at: usize)
 
 // A call placed under this use number is stored, where the row has the record: the caller requests, the callee waits, and nothing waits for either, so that all past the first four bytes is 0.
 fn put_placed(row: &mut [u8], r: usize, use_number: u16)
-    ensures { λ _. ⌜ now (row .exit) ≡ putIn (now (row .entry)) r (quiet Requesting Waiting «use_number») ⌝ }
+    ensures { λ _. ⌜ now (row .exit) ≡ putPlaced (now (row .entry)) r «use_number» ⌝ }
 {
     if r < row.len() / 102 {
         let at = 102 * r;
@@ -152,7 +149,7 @@ pub fn place(
 ) -> Placed
     ensures { λ z. ⌜ ((p : Plan) → seen p (out .source) (target1 out) ≡ v
         → (z ≡ placedInBy kept (rowIn (now (row .entry))) p out (length (now («source_list» .entry))) (length (now («target_list» .entry))))
-        × (now (row .exit) ≡ after (now (row .entry)) (lowestFree (rowIn (now (row .entry)))) (turned (rowIn (now (row .entry))) (outcomeInBy kept (rowIn (now (row .entry))) p out (length (now («source_list» .entry))) (length (now («target_list» .entry))))))
+        × (now (row .exit) ≡ placedBy (turned (rowIn (now (row .entry))) (outcomeInBy kept (rowIn (now (row .entry))) p out (length (now («source_list» .entry))) (length (now («target_list» .entry)))) .reply) (now (row .entry)))
         × (rowIn (now (row .exit)) ≡ rowAfterBy kept (rowIn (now (row .entry))) p out (length (now («source_list» .entry))) (length (now («target_list» .entry))))
         × (now («source_list» .exit) ≡ sourceList p out (outcomeInBy kept (rowIn (now (row .entry))) p out (length (now («source_list» .entry))) (length (now («target_list» .entry)))) (now («source_list» .entry)))
         × (now («target_list» .exit) ≡ targetList p out (outcomeInBy kept (rowIn (now (row .entry))) p out (length (now («source_list» .entry))) (length (now («target_list» .entry)))) (now («target_list» .entry)))) ⌝ }
@@ -181,31 +178,15 @@ pub fn place(
     }
 }
 
-// ---- a port
-
-fn port_in(bytes: [u8; 102]) -> Call
-    ensures { λ r. ⌜ r ≡ callIn bytes ⌝ }
-{
-    callbytes::call_at(&bytes, 0)
-}
+// ---- a port: a row of one
 
 // A command for the port's record.
 pub fn port_command(port: &mut [u8; 102], k: Command) -> Answer
-    ensures { λ z. ⌜ (z ≡ step (callIn (now (port .entry))) k .answer)
-        × (now (port .exit) ≡ portCommanded (now (port .entry)) k)
-        × (callIn (now (port .exit)) ≡ step (callIn (now (port .entry))) k .call) ⌝ }
+    ensures { λ z. ⌜ (z ≡ step (callAt (now (port .entry)) 0) k .answer)
+        × (now (port .exit) ≡ stepAt (now (port .entry)) 0 k .bytes)
+        × (callAt (now (port .exit)) 0 ≡ step (callAt (now (port .entry)) 0) k .call) ⌝ }
 {
     recordbytes::command_at(port, 0, k)
-}
-
-fn port_keep(port: &mut [u8; 102], a: routing::Answer, c: Call)
-    ensures { λ _. ⌜ now (port .exit) ≡ portKeptBy (a .outcome) (now (port .entry)) c ⌝ }
-{
-    let o = a.outcome;
-    match o {
-        Outcome::Routed(_) => *port = callbytes::call_bytes(c.placed()),
-        Outcome::Refused(_) => {}
-    }
 }
 
 // A call is placed in the port's record, as in a row of one, by what a plan shows and a verdict on it; of what no plan shows as in a row.
@@ -218,16 +199,12 @@ pub fn port_place(
     target_list: &mut [u8],
 ) -> Placed
     ensures { λ z. ⌜ ((p : Plan) → seen p (out .source) (target1 out) ≡ v
-        → (z ≡ placedInBy kept (callIn (now (port .entry)) ∷ []) p out (length (now («source_list» .entry))) (length (now («target_list» .entry))))
-        × (now (port .exit) ≡ portAfter (now (port .entry)) (turned (callIn (now (port .entry)) ∷ []) (outcomeInBy kept (callIn (now (port .entry)) ∷ []) p out (length (now («source_list» .entry))) (length (now («target_list» .entry))))))
-        × (callIn (now (port .exit)) ≡ recordAt (rowAfterBy kept (callIn (now (port .entry)) ∷ []) p out (length (now («source_list» .entry))) (length (now («target_list» .entry)))) 0)
-        × (now («source_list» .exit) ≡ sourceList p out (outcomeInBy kept (callIn (now (port .entry)) ∷ []) p out (length (now («source_list» .entry))) (length (now («target_list» .entry)))) (now («source_list» .entry)))
-        × (now («target_list» .exit) ≡ targetList p out (outcomeInBy kept (callIn (now (port .entry)) ∷ []) p out (length (now («source_list» .entry))) (length (now («target_list» .entry)))) (now («target_list» .entry)))) ⌝ }
+        → (z ≡ placedInBy kept (callAt (now (port .entry)) 0 ∷ []) p out (length (now («source_list» .entry))) (length (now («target_list» .entry))))
+        × (now (port .exit) ≡ placedBy (turned (callAt (now (port .entry)) 0 ∷ []) (outcomeInBy kept (callAt (now (port .entry)) 0 ∷ []) p out (length (now («source_list» .entry))) (length (now («target_list» .entry)))) .reply) (now (port .entry)))
+        × (callAt (now (port .exit)) 0 ≡ recordAt (rowAfterBy kept (callAt (now (port .entry)) 0 ∷ []) p out (length (now («source_list» .entry))) (length (now («target_list» .entry)))) 0)
+        × (now («source_list» .exit) ≡ sourceList p out (outcomeInBy kept (callAt (now (port .entry)) 0 ∷ []) p out (length (now («source_list» .entry))) (length (now («target_list» .entry)))) (now («source_list» .entry)))
+        × (now («target_list» .exit) ≡ targetList p out (outcomeInBy kept (callAt (now (port .entry)) 0 ∷ []) p out (length (now («source_list» .entry))) (length (now («target_list» .entry)))) (now («target_list» .entry)))) ⌝ }
     ensures unchanged { λ z. ⌜ KeptBeside (z .routed .outcome) (now (port .entry)) (now (port .exit)) × KeptBeside (z .routed .outcome) (now («source_list» .entry)) (now («source_list» .exit)) × KeptBeside (z .routed .outcome) (now («target_list» .entry)) (now («target_list» .exit)) ⌝ }
 {
-    let c = port_in(*port);
-    let later = placing::port_later(c);
-    let a = routing::route_seen(kept, v, out, later, source_list, target_list);
-    port_keep(port, a, c);
-    placing::answer_for(a, 0, c)
+    place(kept, port, v, out, source_list, target_list)
 }

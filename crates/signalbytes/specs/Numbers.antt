@@ -1,5 +1,6 @@
--- The numbers of the cases: an end's states, an ordinary signal's statuses, the signals. Any number is read back: one past the last case stands for the last case, and a tunnel or a code that a kind has no use for does not count
--- (tunnel and code of the first three kinds, the code of unknown to none). Assumes nothing.
+-- The numbers of an end's states and of the signals: one numbering in records, in commands and in logs. The signals have the kinds of 02's ask 8: 2 upack, 3 unknown, 4 avail, 5 unavail, 6 none, 7 dtmf, 8 special, 9 teardown, 10 downack; 1 is setup's, which waits in no queue.
+-- Any number is read back. A state past the last stands for the last. The kind 0 is an empty place's, and reads as what an empty place holds, an upack. The kind 1, and any past the last, is no signal's, and reads as a dtmf without a symbol, which no end takes: its delivery is refused.
+-- A tunnel or a code that a kind has no use for does not count (tunnel and code of upack, teardown, downack; the code of unknown to none). Assumes nothing.
 use Prim.Native.Nat.{ℕ}
 use mathlib.Core.Bool.{cond}
 use lib.Dec.{eqb}
@@ -35,11 +36,11 @@ statusCode None = 0
 statusCode (Dtmf n) = n
 statusCode (Special n) = n
 
--- upack 0, teardown 1, downack 2; an ordinary signal has its status' number, its tunnel, and the status' code
+-- an ordinary signal has its status' number, its tunnel, and the status' code
 abbrev pub signalNumber : Signal → ℕ
-signalNumber Upack = 0
-signalNumber Teardown = 1
-signalNumber Downack = 2
+signalNumber Upack = 2
+signalNumber Teardown = 9
+signalNumber Downack = 10
 signalNumber (Ordinary t s) = statusNumber s
 
 abbrev pub signalTunnel : Signal → ℕ
@@ -59,9 +60,15 @@ signalCode (Ordinary t s) = statusCode s
 abbrev pub stateSaid : ℕ → State
 stateSaid n = cond (eqb n 0) Idle (cond (eqb n 1) Requesting (cond (eqb n 2) Waiting (cond (eqb n 3) Linked Unlinking)))
 
+-- 255 is no symbol's
+abbrev pub noSignal : Status
+noSignal = Dtmf 255
+
 abbrev pub statusSaid : ℕ → ℕ → Status
 statusSaid n code =
-    cond (eqb n 3) Unknown (cond (eqb n 4) Avail (cond (eqb n 5) Unavail (cond (eqb n 6) None (cond (eqb n 7) (Dtmf code) (Special code)))))
+    cond (eqb n 3) Unknown
+    (cond (eqb n 4) Avail (cond (eqb n 5) Unavail (cond (eqb n 6) None (cond (eqb n 7) (Dtmf code) (cond (eqb n 8) (Special code) noSignal)))))
 
 abbrev pub signalSaid : ℕ → ℕ → ℕ → Signal
-signalSaid n tunnel code = cond (eqb n 0) Upack (cond (eqb n 1) Teardown (cond (eqb n 2) Downack (Ordinary tunnel (statusSaid n code))))
+signalSaid n tunnel code =
+    cond (eqb n 0) Upack (cond (eqb n 2) Upack (cond (eqb n 9) Teardown (cond (eqb n 10) Downack (Ordinary tunnel (statusSaid n code)))))

@@ -1,4 +1,4 @@
-// The numbers of an end's states and of the signals, for programs in other languages. Any number is a state's and a signal's.
+// The numbers of an end's states and of the signals, for programs in other languages: those of a record's bytes, of commands and of logs. Any number is a state's and a signal's.
 ghost use mathlib.Core.Path.{_≡_};
 ghost use Rattle.signalbytes.specs.Numbers.{stateNumber, statusNumber, statusCode, signalNumber, signalTunnel, signalCode, stateSaid, statusSaid, signalSaid};
 use ends::Signal;
@@ -49,9 +49,9 @@ pub fn signal_number(x: Signal) -> u8
     ensures { λ r. ⌜ r ≡ signalNumber x ⌝ }
 {
     match x {
-        Signal::Upack => 0,
-        Signal::Teardown => 1,
-        Signal::Downack => 2,
+        Signal::Upack => 2,
+        Signal::Teardown => 9,
+        Signal::Downack => 10,
         Signal::Ordinary(_, s) => status_number(s),
     }
 }
@@ -99,6 +99,7 @@ pub fn state_said(n: u8) -> State
     }
 }
 
+// A number that is no status' says a dtmf without a symbol, which may not be sent and which no end takes.
 pub fn status_said(n: u8, code: u8) -> Status
     ensures { λ r. ⌜ r ≡ statusSaid n code ⌝ }
 {
@@ -115,9 +116,12 @@ pub fn status_said(n: u8, code: u8) -> Status
         return Status::None;
     }
     if n == 7 {
-        Status::Dtmf(code)
-    } else {
+        return Status::Dtmf(code);
+    }
+    if n == 8 {
         Status::Special(code)
+    } else {
+        Status::Dtmf(255)
     }
 }
 
@@ -127,10 +131,13 @@ pub fn signal_said(n: u8, tunnel: u8, code: u8) -> Signal
     if n == 0 {
         return Signal::Upack;
     }
-    if n == 1 {
+    if n == 2 {
+        return Signal::Upack;
+    }
+    if n == 9 {
         return Signal::Teardown;
     }
-    if n == 2 {
+    if n == 10 {
         return Signal::Downack;
     }
     Signal::Ordinary(tunnel, status_said(n, code))

@@ -7,7 +7,7 @@ use mathlib.Core.Logic.{_≢_}
 use lib.ListN.{length, set, length-set, replicate}
 use lib.Seq.{getD-set-same, getD-set-other}
 use borrow.Author.Tests.{eqb-true, eqb-false, ltb-true, eq-eqb}
-use lib.Dec.{T, ltb, eqb, lt→ltb}
+use lib.Dec.{T, T-not, ltb, eqb, ltb→lt, lt→ltb}
 use native.Mathlib.Omega.{arith}
 use native.Mathlib.Nat.{mod-add-mod}
 use Rattle.refusal.specs.declared.Refusal.the-variants.{NoSuchCall, NoFreeRecord, RowTooLong}
@@ -15,12 +15,12 @@ use Rattle.call.specs.declared.Call.{Call}
 use Rattle.call.specs.declared.Command.{Command}
 use Rattle.call.specs.declared.Side.{Side}
 use Rattle.call.specs.declared.Side.the-variants.{Caller, Callee}
-use Rattle.call.specs.declared.Command.the-variants.{Deliver}
+use Rattle.call.specs.declared.Command.the-variants.{Accept, Busy, Unobtainable, Send, Teardown as Hang-up, Deliver}
 use Rattle.call.specs.Protocol.{isFree, step, numberIn, nextUse, placed, cleared}
 use Rattle.call.specs.History.{allows, after}
 use Rattle.call.specs.Row.{Act, place, command, placed-at, says, Turn, recordAt, lowestFree, named, refuses, placeAt, put, turn, turns, numberOfReply, granted, Event, placing, doing, happen, lives, placesIn, ownOf, own, placings, useAfter}
 use Rattle.teardown.specs.Teardown.{ByItsOwn, AnswersOwn, PlacedLowest, Placing, ClearedRow, Came, still-free, by-placing, EachCame, Never17InRow, Reached, ReachedByName, NoDeadlockInRow, InOrderInRow, Demand3InRow, UseByPlacings, UsesComeRound}
-use Rattle.teardown.proofs.Theorem.{demand3, noDeadlock, inOrder, never17, endsIdle, refusedSame, keepsItsUse, after-use}
+use Rattle.teardown.proofs.Theorem.{demand3, noDeadlock, inOrder, never17, endsIdle, refusedSame, keepsItsUse, after-use, and-left, and-right, is-true}
 
 -- A ROW KEEPS ITS LENGTH
 pick-length : (n : ℕ) (b : Bool) (s t : Turn) → length (s .row) ≡ n → length (t .row) ≡ n → length (cond b s t .row) ≡ n
@@ -62,7 +62,7 @@ module _ (r : ℕ) (row : List Call) (h : r < length row) where
   does place = does-place (ltb 1024 (length row)) (ltb (lowestFree row) (length row))
   does (command r′ n k) = does-command r′ k (ltb 1024 (length row)) (named row r′ n)
 
-lives-append : (c : Call) (xs ys : List Event) → lives c (xs ++ ys) ≡ lives (lives c xs) ys
+pub lives-append : (c : Call) (xs ys : List Event) → lives c (xs ++ ys) ≡ lives (lives c xs) ys
 lives-append c [] ys = refl
 lives-append c (x ∷ xs) ys = lives-append (happen c x) xs ys
 
@@ -130,7 +130,7 @@ placing-by row r n false true e h =
 pub placing-law : Placing
 placing-law row r n h = placing-by row r n (ltb 1024 (length row)) (ltb (lowestFree row) (length row)) refl h
 
-lives-commands : (c : Call) (ks : List Command) → lives c (map doing ks) ≡ after c ks
+pub lives-commands : (c : Call) (ks : List Command) → lives c (map doing ks) ≡ after c ks
 lives-commands c [] = refl
 lives-commands c (k ∷ ks) = lives-commands (step c k .call) ks
 
@@ -170,55 +170,59 @@ pub clearedRow : ClearedRow
 clearedRow n r h = cleared-at n r
 
 -- 17 NEVER OCCURS
-and-true′ : (a b : Bool) → (a && b) ≡ true → (a ≡ true) × (b ≡ true)
-and-true′ true b p = (refl, p)
-and-true′ false b p = absurd (false-true p)
-  where
-    false-true : false ≡ true → ⊥
-    false-true q = let z : _≡_ {A = ℕ} 0 1 = cc in omega arith
+-- a record that came from c
+answers-not-17 : {c z : Call} {xs : List Event} (k : Command) → (z ≡ c → numberIn (step z k .answer) ≢ 17) → Came c xs z → numberIn (step z k .answer) ≢ 17
+answers-not-17 k f (still-free ks e p) = f p
+answers-not-17 {c} k f (by-placing ys ks e p) = rw p (never17 (lives c ys) ks k)
 
-clash : (b : Bool) → not b ≡ true → T b → ⊥
-clash true p t = let z : _≡_ {A = ℕ} 0 1 = cc in omega arith
-clash false p t = t
+-- a record that began cleared
+cleared-not-17 : (k : Command) → numberIn (step cleared k .answer) ≢ 17
+cleared-not-17 Accept = λ p. omega arith
+cleared-not-17 Busy = λ p. omega arith
+cleared-not-17 Unobtainable = λ p. omega arith
+cleared-not-17 (Send Caller t x) = λ p. omega arith
+cleared-not-17 (Send Callee t x) = λ p. omega arith
+cleared-not-17 (Hang-up Caller) = λ p. omega arith
+cleared-not-17 (Hang-up Callee) = λ p. omega arith
+cleared-not-17 (Deliver Caller) = λ p. omega arith
+cleared-not-17 (Deliver Callee) = λ p. omega arith
 
-answers-not-17 : {c z : Call} {xs : List Event} (k : Command) → T (isFree c) → Came c xs z → not (isFree z) ≡ true → numberIn (step z k .answer) ≢ 17
-answers-not-17 {c} {z} k f (still-free ks e p) n = absurd (clash (isFree z) n (rw p f))
-answers-not-17 {c} k f (by-placing ys ks e p) n = rw p (never17 (lives c ys) ks k)
+pub lived-not-17 : (xs : List Event) (k : Command) → numberIn (step (lives cleared xs) k .answer) ≢ 17
+lived-not-17 xs k = answers-not-17 k (λ p. rw p (cleared-not-17 k)) (came cleared xs tt (split xs))
 
+-- a row
 place-not-17 : (row : List Call) (b d : Bool)
     → numberOfReply (cond b (refuses RowTooLong row) (cond d (placeAt row (lowestFree row)) (refuses NoFreeRecord row)) .reply) ≢ 17
 place-not-17 row true d = λ p. omega arith
 place-not-17 row false true = λ p. omega arith
 place-not-17 row false false = λ p. omega arith
 
-command-not-17 : (row : List Call) (r n : ℕ) (k : Command) → (r < length row → not (isFree (recordAt row r)) ≡ true → numberIn (step (recordAt row r) k .answer) ≢ 17) → (b d : Bool) → named row r n ≡ d
+command-not-17 : (row : List Call) (r n : ℕ) (k : Command) → (r < length row → T (not (isFree (recordAt row r))) → numberIn (step (recordAt row r) k .answer) ≢ 17) → (b d : Bool) → named row r n ≡ d
     → numberOfReply (cond b (refuses RowTooLong row) (cond d (put row r (step (recordAt row r) k)) (refuses NoSuchCall row)) .reply) ≢ 17
 command-not-17 row r n k f true d e = λ p. omega arith
 command-not-17 row r n k f false false e = λ p. omega arith
 command-not-17 row r n k f false true e =
-    let a = and-true′ (ltb r (length row)) (not (isFree (recordAt row r)) && eqb (recordAt row r .«use_number») n) e in
-    let m = and-true′ (not (isFree (recordAt row r))) (eqb (recordAt row r .«use_number») n) (a .1) in
-    f (ltb-true r (length row) (a .0)) (m .0)
+    let fits : T (not (isFree (recordAt row r)) && eqb (recordAt row r .«use_number») n) = and-right (ltb r (length row)) _ (is-true (named row r n) e) in
+    f (ltb→lt r (length row) (and-left (ltb r (length row)) _ (is-true (named row r n) e))) (and-left (not (isFree (recordAt row r))) _ fits)
+
+pub turn-not-17 : (row : List Call)
+    → ((r : ℕ) (k : Command) → r < length row → T (not (isFree (recordAt row r))) → numberIn (step (recordAt row r) k .answer) ≢ 17)
+    → (a : Act) → numberOfReply (turn row a .reply) ≢ 17
+turn-not-17 row f place = place-not-17 row (ltb 1024 (length row)) (ltb (lowestFree row) (length row))
+turn-not-17 row f (command r n k) = command-not-17 row r n k (f r k) (ltb 1024 (length row)) (named row r n) refl
 
 pub never17InRow : Never17InRow
-never17InRow row f acts place =
-    let row′ : List Call = turns row acts in
-    place-not-17 row′ (ltb 1024 (length row′)) (ltb (lowestFree row′) (length row′))
-never17InRow row f acts (command r n k) =
-    let row′ : List Call = turns row acts in
-    command-not-17 row′ r n k
-    (λ h.
+never17InRow row f acts a =
+    turn-not-17 (turns row acts)
+    (λ r k h busy.
     (let g : r < length row = omega (arith, turns-length row acts) in
-    answers-not-17 k (f r g) (eachCame row f acts r g)))
-    (ltb 1024 (length row′)) (named row′ r n) refl
+    answers-not-17 k (λ p. absurd (T-not (isFree (recordAt (turns row acts) r)) busy (rw p (f r g)))) (eachCame row f acts r g)))
+    a
 
 -- A CALL IN A ROW
 both : (a b : Bool) → T a → T b → T (a && b)
 both true b p q = q
 both false b p q = absurd p
-
-is-true : (b : Bool) → b ≡ true → T b
-is-true b p = rw p tt
 
 names-it : (row : List Call) (r n : ℕ) → r < length row → T (not (isFree (recordAt row r))) → recordAt row r .«use_number» ≡ n → T (named row r n)
 names-it row r n h f e =

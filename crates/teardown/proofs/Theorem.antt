@@ -75,11 +75,11 @@ idle-state Waiting t = absurd t
 idle-state Linked t = absurd t
 idle-state Unlinking t = absurd t
 
-and-left : (a b : Bool) → T (a && b) → T a
+pub and-left : (a b : Bool) → T (a && b) → T a
 and-left true b t = tt
 and-left false b t = absurd t
 
-and-right : (a b : Bool) → T (a && b) → T b
+pub and-right : (a b : Bool) → T (a && b) → T b
 and-right true b t = t
 and-right false b t = absurd t
 
@@ -91,7 +91,7 @@ or-right : (a b : Bool) → T b → T (a || b)
 or-right true b t = tt
 or-right false b t = t
 
-is-true : (b : Bool) → b ≡ true → T b
+pub is-true : (b : Bool) → b ≡ true → T b
 is-true b p = rw p tt
 
 idle-end : (s : Side) (c : Call) → T (isFree c) → stateOf s c ≡ Idle

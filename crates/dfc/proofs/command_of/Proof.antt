@@ -14,13 +14,16 @@ returns-3 : tie.Need-returns-3
 returns-3 c = rw (ne-eqb _ 0 (c .before .before .if1 .left), ne-eqb _ 1 (c .before .if2 .left), eq-eqb _ 2 (c .if3 .taken))
 
 returns-4 : tie.Need-returns-4
-returns-4 c = rw (ne-eqb _ 0 (c .before .before .before .before .before .if1 .left), ne-eqb _ 1 (c .before .before .before .before .if2 .left), ne-eqb _ 2 (c .before .before .before .if3 .left), eq-eqb _ 3 (c .before .before .if4 .taken), c .status-of .ensures, c .before .side-of .ensures)
+returns-4 c = rw (ne-eqb _ 0 (c .before .before .before .before .before .if1 .left), ne-eqb _ 1 (c .before .before .before .before .if2 .left), ne-eqb _ 2 (c .before .before .before .if3 .left), eq-eqb _ 3 (c .before .before .if4 .taken), c .status-said .ensures, c .before .side-of .ensures)
 
 returns-5 : tie.Need-returns-5
 returns-5 c = rw (ne-eqb _ 0 (c .before .before .before .before .before .if1 .left), ne-eqb _ 1 (c .before .before .before .before .if2 .left), ne-eqb _ 2 (c .before .before .before .if3 .left), ne-eqb _ 3 (c .before .before .if4 .left), eq-eqb _ 4 (c .before .if5 .taken), c .side-of2 .ensures)
 
 returns-6 : tie.Need-returns-6
-returns-6 c = rw (ne-eqb _ 0 (c .before .before .before .before .before .if1 .left), ne-eqb _ 1 (c .before .before .before .before .if2 .left), ne-eqb _ 2 (c .before .before .before .if3 .left), ne-eqb _ 3 (c .before .before .if4 .left), ne-eqb _ 4 (c .before .if5 .left), c .side-of3 .ensures)
+returns-6 c = rw (ne-eqb _ 0 (c .before .before .before .before .before .before .if1 .left), ne-eqb _ 1 (c .before .before .before .before .before .if2 .left), ne-eqb _ 2 (c .before .before .before .before .if3 .left), ne-eqb _ 3 (c .before .before .before .if4 .left), ne-eqb _ 4 (c .before .before .if5 .left), eq-eqb _ 5 (c .before .if6 .taken), c .side-of3 .ensures)
+
+returns-7 : tie.Need-returns-7
+returns-7 c = rw (ne-eqb _ 0 (c .before .before .before .before .before .before .if1 .left), ne-eqb _ 1 (c .before .before .before .before .before .if2 .left), ne-eqb _ 2 (c .before .before .before .before .if3 .left), ne-eqb _ 3 (c .before .before .before .if4 .left), ne-eqb _ 4 (c .before .before .if5 .left), ne-eqb _ 5 (c .before .if6 .left), c .side-of4 .ensures)
 
 pub command-of-spec : {M : Type 1} → statement M
 command-of-spec =
@@ -35,4 +38,6 @@ command-of-spec =
     (λ c κs. search needs)
     returns-5
     (λ c κs. search needs)
-    returns-6)
+    returns-6
+    (λ c κs. search needs)
+    returns-7)

@@ -5,10 +5,8 @@ use Rattle.ends.specs.Ends.{answers}
 use Rattle.ends.specs.declared.State.the-variants.{Linked}
 use Rattle.ends.specs.declared.Signal.the-variants.{Upack}
 use Rattle.call.specs.declared.Side.the-variants.{Callee}
-use Rattle.call.specs.Parts.{oneSent}
-use Rattle.call.proofs.Steps.{accepts}
-use Rattle.recordbytes.specs.Parts.{recordFrom}
-use Rattle.recordbytes.proofs.Steps.{given-as}
+use Rattle.recordbytes.specs.Parts.{oneSentAt}
+use Rattle.recordbytes.proofs.Steps.{given-as, accepts}
 use borrow.Author.Needs.{needs}
 use Rattle.recordbytes.proofs.accept.Statement.{statement}
 use Rattle.recordbytes.proofs.accept.Tie as tie
@@ -16,8 +14,7 @@ use Rattle.recordbytes.proofs.accept.Tie as tie
 returns : tie.Need-returns
 returns c =
     let a = c .before .before .before .before .before .before .before .before .args in
-    let d = recordFrom (a .row .now) (a .at) in
-    given-as (a .row .now) (a .at) (accepts d ∙ sym (ap (λ v. oneSent d Callee v Upack) (c .before .before .before .before .answer .ensures ∙ ap (λ (e : End). answers (e .state) Linked) (c .before .before .before .before .before .end-at .ensures)))) (c .before .before .one-sent .ensures)
+    given-as (accepts (a .row .now) (a .at) ∙ sym (ap (λ v. oneSentAt (a .row .now) (a .at) Callee v Upack) (c .before .before .before .before .answer .ensures ∙ ap (λ (e : End). answers (e .state) Linked) (c .before .before .before .before .before .end-at .ensures)))) (c .before .before .one-sent .ensures)
 
 pub accept-spec : {M : Type 1} → statement M
 accept-spec =

@@ -4,10 +4,8 @@ use Rattle.ends.specs.declared.End.{End}
 use Rattle.ends.specs.Ends.{answers}
 use Rattle.ends.specs.declared.State.the-variants.{Unlinking}
 use Rattle.ends.specs.declared.Status.the-variants.{Unavail}
-use Rattle.call.specs.Parts.{threeSent}
-use Rattle.call.proofs.Steps.{is-busy}
-use Rattle.recordbytes.specs.Parts.{recordFrom}
-use Rattle.recordbytes.proofs.Steps.{given-as}
+use Rattle.recordbytes.specs.Parts.{threeSentAt}
+use Rattle.recordbytes.proofs.Steps.{given-as, is-busy}
 use borrow.Author.Needs.{needs}
 use Rattle.recordbytes.proofs.busy.Statement.{statement}
 use Rattle.recordbytes.proofs.busy.Tie as tie
@@ -15,8 +13,7 @@ use Rattle.recordbytes.proofs.busy.Tie as tie
 returns : tie.Need-returns
 returns c =
     let a = c .before .before .before .before .before .before .before .before .args in
-    let d = recordFrom (a .row .now) (a .at) in
-    given-as (a .row .now) (a .at) (is-busy d ∙ sym (ap (λ v. threeSent d v Unavail) (c .before .before .before .before .answer .ensures ∙ ap (λ (e : End). answers (e .state) Unlinking) (c .before .before .before .before .before .end-at .ensures)))) (c .before .before .three-sent .ensures)
+    given-as (is-busy (a .row .now) (a .at) ∙ sym (ap (λ v. threeSentAt (a .row .now) (a .at) v Unavail) (c .before .before .before .before .answer .ensures ∙ ap (λ (e : End). answers (e .state) Unlinking) (c .before .before .before .before .before .end-at .ensures)))) (c .before .before .three-sent .ensures)
 
 pub busy-spec : {M : Type 1} → statement M
 busy-spec =

@@ -3,7 +3,7 @@ use mathlib.Core.Path.{ap, _∙_}
 use Prim.Native.Nat.{_+_}
 use lib.ListN.{getD}
 use Rattle.signalbytes.specs.Numbers.{stateSaid}
-use Rattle.recordbytes.proofs.Records.{end-from}
+use Rattle.recordbytes.proofs.Steps.{end-from}
 use borrow.Author.Needs.{needs}
 use Rattle.recordbytes.proofs.end_at.Statement.{statement}
 use Rattle.recordbytes.proofs.end_at.Tie as tie

@@ -3,7 +3,7 @@ use mathlib.Core.Path.{ap, _∙_}
 use Prim.Native.Nat.{_+_}
 use lib.ListN.{getD}
 use Rattle.signalbytes.specs.Numbers.{signalSaid}
-use Rattle.recordbytes.proofs.Records.{head-from}
+use Rattle.recordbytes.proofs.Steps.{head-from}
 use borrow.Author.Needs.{needs}
 use Rattle.recordbytes.proofs.head_at.Statement.{statement}
 use Rattle.recordbytes.proofs.head_at.Tie as tie

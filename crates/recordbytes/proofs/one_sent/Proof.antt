@@ -1,6 +1,7 @@
 -- `recordbytes::one_sent` meets its contract. Assumes nothing.
 use native.Mathlib.Omega.{arith}
-use Rattle.recordbytes.proofs.Steps.{from-kept, from-count, one-more, one-refused, one-over}
+use Rattle.call.specs.Protocol.{other}
+use Rattle.recordbytes.proofs.Steps.{settled-kept, one-more, one-refused, one-over}
 use borrow.Author.Needs.{needs}
 use Rattle.recordbytes.proofs.one_sent.Statement.{statement}
 use Rattle.recordbytes.proofs.one_sent.Tie as tie
@@ -8,29 +9,25 @@ use Rattle.recordbytes.proofs.one_sent.Tie as tie
 returns : tie.Need-returns
 returns c =
     let a = c .before .before .before .before .before .before .before .args in
-    let room = c .before .before .before .before .before .before .before .pre in
-    one-over (a .row .now) (a .at) room (a .s) (a .x) (c .before .before .before .before .v2 .given .1) (c .before .before .queue-from .ensures .0) (c .if1 .taken)
+    one-over (a .row .now) (a .at) (a .s) (a .x) (c .before .before .before .before .v2 .given .1) (c .before .before .queue-from .ensures .0) (c .if1 .taken)
 
 push-requires : tie.Need-push-requires
 push-requires c κs =
     let a = c .before .before .before .before .before .before .before .before .before .before .before .before .args in
     let room = c .before .before .before .before .before .before .before .before .before .before .before .before .pre in
     let q = c .before .before .before .before .before .before .before .queue-from .ensures .0 in
-    let kept = from-kept (a .row .now) (a .at) room (a .s) _ (c .before .before .before .settle .ensures) q in
-    let count = from-count (a .row .now) (a .at) room (a .s) q in
-    omega (arith, c .before .before .before .before .before .if1 .left, c .before .before .before .settle .kept .0, c .before .before .before .before .before .before .before .queue-from .ensures .1)
+    let kept = settled-kept (a .row .now) (a .at) (a .s) (other (a .s)) (c .before .before .before .before .before .before .before .before .before .v2 .given .0 .0) (c .before .before .before .settle .ensures) q in
+    omega (arith, room, c .before .before .before .before .before .if1 .left, c .before .before .before .settle .kept .0, c .before .before .before .before .before .before .before .queue-from .ensures .1)
 
 returns-2 : tie.Need-returns-2
 returns-2 c =
     let a = c .before .before .before .before .args in
-    let room = c .before .before .before .before .pre in
-    one-refused (a .row .now) (a .at) room (a .s) (a .x) (c .before .v .given .1)
+    one-refused (a .row .now) (a .at) (a .s) (a .x) (c .before .v .given .1)
 
 returns-3 : tie.Need-returns-3
 returns-3 c =
     let a = c .before .before .before .before .before .before .before .before .before .before .before .before .before .before .before .args in
-    let room = c .before .before .before .before .before .before .before .before .before .before .before .before .before .before .before .pre in
-    one-more (a .row .now) (a .at) room (a .s) _ (c .before .before .before .before .before .before .settle .ensures) (a .x) (c .before .before .before .before .before .before .before .before .before .before .before .before .v2 .given .1) (c .before .before .before .before .before .before .before .before .before .before .queue-from .ensures .0) (c .before .before .before .before .before .before .before .before .if1 .left) (c .before .before .push .ensures)
+    one-more (a .row .now) (a .at) (a .s) (a .x) (c .before .before .before .before .before .before .settle .ensures) (c .before .before .before .before .before .before .before .before .before .before .before .before .v2 .given .1) (c .before .before .before .before .before .before .before .before .before .before .queue-from .ensures .0) (c .before .before .before .before .before .before .before .before .if1 .left) (c .before .before .push .ensures)
 
 pub one-sent-spec : {M : Type 1} → statement M
 one-sent-spec =

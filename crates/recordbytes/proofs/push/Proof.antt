@@ -4,8 +4,8 @@ use mathlib.Core.List.{List}
 use Prim.Native.Nat.{ℕ, _+_, _*_}
 use native.Mathlib.Omega.{arith}
 use lib.ListN.{getD, set, length-set}
-use Rattle.callbytes.proofs.Slots.{put-three}
-use Rattle.recordbytes.specs.Parts.{pushedAt}
+use Rattle.recordbytes.proofs.Places.{put-three}
+use Rattle.recordbytes.specs.Steps.{pushedAt}
 use borrow.Author.Needs.{needs}
 use Rattle.recordbytes.proofs.push.Statement.{statement}
 use Rattle.recordbytes.proofs.push.Tie as tie

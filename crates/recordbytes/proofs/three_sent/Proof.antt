@@ -4,8 +4,7 @@ use Prim.Native.Nat.{_+_}
 use native.Mathlib.Omega.{arith}
 use Rattle.ends.specs.declared.Signal.the-variants.{Upack, Ordinary}
 use Rattle.call.specs.declared.Side.the-variants.{Caller, Callee}
-use Rattle.recordbytes.proofs.Records.{count-from}
-use Rattle.recordbytes.proofs.Steps.{from-kept, one-counted, three-more, three-refused, three-over}
+use Rattle.recordbytes.proofs.Steps.{settled-kept, one-counted, three-more, three-refused, three-over}
 use borrow.Author.Needs.{needs}
 use Rattle.recordbytes.proofs.three_sent.Statement.{statement}
 use Rattle.recordbytes.proofs.three_sent.Tie as tie
@@ -13,8 +12,7 @@ use Rattle.recordbytes.proofs.three_sent.Tie as tie
 returns : tie.Need-returns
 returns c =
     let a = c .before .before .before .before .before .before .args in
-    let room = c .before .before .before .before .before .before .pre in
-    three-over (a .row .now) (a .at) room (a .status) (c .before .before .before .v2 .given .1) (c .if1 .taken)
+    three-over (a .row .now) (a .at) (a .status) (c .before .before .before .v2 .given .1) (c .if1 .taken)
 
 push-requires : tie.Need-push-requires
 push-requires c κs =
@@ -22,9 +20,8 @@ push-requires c κs =
     let room = c .before .before .before .before .before .before .before .before .before .before .before .pre in
     let q = a .at + 4 in
     let w = c .before .before .before .settle .last .0 in
-    let kept = from-kept (a .row .now) (a .at) room Callee _ (c .before .before .before .settle .ensures) refl in
-    let count = count-from Caller (a .row .now) (a .at) in
-    omega (arith, c .before .before .before .before .before .if1 .left, c .before .before .before .settle .kept .0)
+    let kept = settled-kept (a .row .now) (a .at) Callee Caller (c .before .before .before .before .before .before .before .before .v2 .given .0 .0) (c .before .before .before .settle .ensures) refl in
+    omega (arith, room, c .before .before .before .before .before .if1 .left, c .before .before .before .settle .kept .0)
 
 push-requires-2 : tie.Need-push-requires-2
 push-requires-2 c κs =
@@ -32,10 +29,9 @@ push-requires-2 c κs =
     let room = c .before .before .before .before .before .before .before .before .before .before .before .before .before .before .before .pre in
     let q = a .at + 4 in
     let w = c .before .before .before .before .before .before .before .settle .last .0 in
-    let kept = from-kept (a .row .now) (a .at) room Callee _ (c .before .before .before .before .before .before .before .settle .ensures) refl in
-    let count = count-from Caller (a .row .now) (a .at) in
-    let one = one-counted w q Upack (omega (arith, c .before .before .before .before .before .before .before .settle .kept .0)) (c .before .before .before .push .ensures) in
-    omega (arith, c .before .before .before .before .before .before .before .before .before .if1 .left, c .before .before .before .before .before .before .before .settle .kept .0, c .before .before .before .push .kept .0)
+    let kept = settled-kept (a .row .now) (a .at) Callee Caller (c .before .before .before .before .before .before .before .before .before .before .before .before .v2 .given .0 .0) (c .before .before .before .before .before .before .before .settle .ensures) refl in
+    let one = one-counted w q Upack (omega (arith, room, c .before .before .before .before .before .before .before .settle .kept .0)) (c .before .before .before .push .ensures) in
+    omega (arith, room, c .before .before .before .before .before .before .before .before .before .if1 .left, c .before .before .before .before .before .before .before .settle .kept .0, c .before .before .before .push .kept .0)
 
 push-requires-3 : tie.Need-push-requires-3
 push-requires-3 c κs =
@@ -43,23 +39,20 @@ push-requires-3 c κs =
     let room = c .before .before .before .before .before .before .before .before .before .before .before .before .before .before .before .before .before .before .before .pre in
     let q = a .at + 4 in
     let w = c .before .before .before .before .before .before .before .before .before .before .before .settle .last .0 in
-    let kept = from-kept (a .row .now) (a .at) room Callee _ (c .before .before .before .before .before .before .before .before .before .before .before .settle .ensures) refl in
-    let count = count-from Caller (a .row .now) (a .at) in
-    let one = one-counted w q Upack (omega (arith, c .before .before .before .before .before .before .before .before .before .before .before .settle .kept .0)) (c .before .before .before .before .before .before .before .push .ensures) in
-    let two = one-counted (c .before .before .before .before .before .before .before .push .last .0) q (Ordinary 0 (a .status)) (omega (arith, c .before .before .before .before .before .before .before .before .before .before .before .settle .kept .0, c .before .before .before .before .before .before .before .push .kept .0)) (c .before .before .before .push2 .ensures) in
-    omega (arith, c .before .before .before .before .before .before .before .before .before .before .before .before .before .if1 .left, c .before .before .before .before .before .before .before .before .before .before .before .settle .kept .0, c .before .before .before .before .before .before .before .push .kept .0, c .before .before .before .push2 .kept .0)
+    let kept = settled-kept (a .row .now) (a .at) Callee Caller (c .before .before .before .before .before .before .before .before .before .before .before .before .before .before .before .before .v2 .given .0 .0) (c .before .before .before .before .before .before .before .before .before .before .before .settle .ensures) refl in
+    let one = one-counted w q Upack (omega (arith, room, c .before .before .before .before .before .before .before .before .before .before .before .settle .kept .0)) (c .before .before .before .before .before .before .before .push .ensures) in
+    let two = one-counted (c .before .before .before .before .before .before .before .push .last .0) q (Ordinary 0 (a .status)) (omega (arith, room, c .before .before .before .before .before .before .before .before .before .before .before .settle .kept .0, c .before .before .before .before .before .before .before .push .kept .0)) (c .before .before .before .push2 .ensures) in
+    omega (arith, room, c .before .before .before .before .before .before .before .before .before .before .before .before .before .if1 .left, c .before .before .before .before .before .before .before .before .before .before .before .settle .kept .0, c .before .before .before .before .before .before .before .push .kept .0, c .before .before .before .push2 .kept .0)
 
 returns-2 : tie.Need-returns-2
 returns-2 c =
     let a = c .before .before .before .before .args in
-    let room = c .before .before .before .before .pre in
-    three-refused (a .row .now) (a .at) room (a .status) (c .before .v .given .1)
+    three-refused (a .row .now) (a .at) (a .status) (c .before .v .given .1)
 
 returns-3 : tie.Need-returns-3
 returns-3 c =
     let a = c .before .before .before .before .before .before .before .before .before .before .before .before .before .before .before .before .before .before .before .before .before .before .args in
-    let room = c .before .before .before .before .before .before .before .before .before .before .before .before .before .before .before .before .before .before .before .before .before .before .pre in
-    three-more (a .row .now) (a .at) room (a .status) _ (c .before .before .before .before .before .before .before .before .before .before .before .before .before .before .before .before .before .before .before .v2 .given .1) (c .before .before .before .before .before .before .before .before .before .before .before .before .before .before .before .before .if1 .left) (c .before .before .before .before .before .before .before .before .before .before .before .before .before .before .settle .ensures) (c .before .before .before .before .before .before .before .before .before .before .push .ensures) (c .before .before .before .before .before .before .push2 .ensures) (c .before .before .push3 .ensures)
+    three-more (a .row .now) (a .at) (a .status) _ (c .before .before .before .before .before .before .before .before .before .before .before .before .before .before .before .before .before .before .before .v2 .given .1) (c .before .before .before .before .before .before .before .before .before .before .before .before .before .before .before .before .if1 .left) (c .before .before .before .before .before .before .before .before .before .before .before .before .before .before .settle .ensures) (c .before .before .before .before .before .before .before .before .before .before .push .ensures) (c .before .before .before .before .before .before .push2 .ensures) (c .before .before .push3 .ensures)
 
 pub three-sent-spec : {M : Type 1} → statement M
 three-sent-spec =

@@ -4,10 +4,8 @@ use Rattle.ends.specs.declared.End.{End}
 use Rattle.ends.specs.Ends.{answers}
 use Rattle.ends.specs.declared.State.the-variants.{Unlinking}
 use Rattle.ends.specs.declared.Status.the-variants.{Unknown}
-use Rattle.call.specs.Parts.{threeSent}
-use Rattle.call.proofs.Steps.{is-unobtainable}
-use Rattle.recordbytes.specs.Parts.{recordFrom}
-use Rattle.recordbytes.proofs.Steps.{given-as}
+use Rattle.recordbytes.specs.Parts.{threeSentAt}
+use Rattle.recordbytes.proofs.Steps.{given-as, is-unobtainable}
 use borrow.Author.Needs.{needs}
 use Rattle.recordbytes.proofs.unobtainable.Statement.{statement}
 use Rattle.recordbytes.proofs.unobtainable.Tie as tie
@@ -15,8 +13,7 @@ use Rattle.recordbytes.proofs.unobtainable.Tie as tie
 returns : tie.Need-returns
 returns c =
     let a = c .before .before .before .before .before .before .before .before .args in
-    let d = recordFrom (a .row .now) (a .at) in
-    given-as (a .row .now) (a .at) (is-unobtainable d ∙ sym (ap (λ v. threeSent d v Unknown) (c .before .before .before .before .answer .ensures ∙ ap (λ (e : End). answers (e .state) Unlinking) (c .before .before .before .before .before .end-at .ensures)))) (c .before .before .three-sent .ensures)
+    given-as (is-unobtainable (a .row .now) (a .at) ∙ sym (ap (λ v. threeSentAt (a .row .now) (a .at) v Unknown) (c .before .before .before .before .answer .ensures ∙ ap (λ (e : End). answers (e .state) Unlinking) (c .before .before .before .before .before .end-at .ensures)))) (c .before .before .three-sent .ensures)
 
 pub unobtainable-spec : {M : Type 1} → statement M
 unobtainable-spec =

@@ -29,7 +29,7 @@ returns-4 c =
 returns-5 : tie.Need-returns-5
 returns-5 c =
     let a = c .before .before .before .before .before .before .before .before .before .before .before .before .before .args in
-    stepped-in (a .row .now) (a .r) (a .use-number) (a .k) (c .before .before .before .before .before .before .before .before .before .before .before .if1 .left) (c .before .before .before .before .before .before .before .before .before .before .if2 .left) (sym (c .before .before .before .before .before .before .before .before .free-in .ensures) ∙ c .before .before .before .before .before .before .before .if3 .left) (c .before .before .before .before .before .use-at .ensures) (eq-eqb _ _ (c .before .before .before .before .if4 .left)) (c .before .before .command-at .ensures .0) (c .before .before .command-at .ensures .1) (c .before .before .command-at .ensures .2)
+    stepped-in (a .row .now) (a .r) (a .use-number) (a .k) (c .before .before .before .before .before .before .before .before .before .before .before .if1 .left) (c .before .before .before .before .before .before .before .before .before .before .if2 .left) (sym (c .before .before .before .before .before .before .before .before .free-in .ensures) ∙ c .before .before .before .before .before .before .before .if3 .left) (c .before .before .before .before .before .use-at .ensures) (eq-eqb _ _ (c .before .before .before .before .if4 .left)) (c .before .before .command-at .ensures .0) (c .before .before .command-at .ensures .1)
 
 pub command-spec : {M : Type 1} → statement M
 command-spec =

@@ -1,7 +1,6 @@
 -- `rowbytes::lowest_free` meets its contract. Assumes nothing.
 use mathlib.Core.Path.{_≡_, refl, sym, _∙_}
 use Prim.Native.Nat.{_+_, _*_, _-_, _≤_}
-use lib.ListN.{drop}
 use native.Mathlib.Omega.{arith}
 use borrow.Author.Needs.{needs}
 use Rattle.call.specs.Row.{lowestFree}
@@ -11,7 +10,7 @@ use Rattle.rowbytes.proofs.lowest_free.Statement.{statement}
 use Rattle.rowbytes.proofs.lowest_free.Tie as tie
 
 abbrev Inv-loop : tie.InvT-loop
-Inv-loop row n i₀ i = (i ≤ recordsIn row) × (i + lowestFree (records (recordsIn row - i) (drop (102 * i) row)) ≡ lowestFree (rowIn row))
+Inv-loop row n i₀ i = (i ≤ recordsIn row) × (i + lowestFree (records (recordsIn row - i) row (102 * i)) ≡ lowestFree (rowIn row))
 
 abbrev μ-loop : tie.MeasureT-loop
 μ-loop row n i₀ i = recordsIn row - i

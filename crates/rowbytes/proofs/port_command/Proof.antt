@@ -7,7 +7,7 @@ use Rattle.rowbytes.proofs.port_command.Tie as tie
 returns : tie.Need-returns
 returns c =
     let a = c .before .before .args in
-    port-stepped (a .port .now) (a .k) (search needs) (c .command-at .ensures .0) (c .command-at .ensures .1) (c .command-at .ensures .2)
+    port-stepped (a .port .now) (a .k) (search needs) (c .command-at .ensures .0) (c .command-at .ensures .1)
 
 pub port-command-spec : {M : Type 1} → statement M
 port-command-spec = tie.close (tie.spec (λ c κs. search needs) returns)

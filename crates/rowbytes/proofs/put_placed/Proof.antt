@@ -4,9 +4,7 @@ use Prim.Native.Nat.{_*_}
 use native.Mathlib.Omega.{arith}
 use lib.ListN.{length-set}
 use borrow.Author.Needs.{needs}
-use Rattle.ends.specs.declared.State.the-variants.{Requesting, Waiting}
-use Rattle.call.specs.Protocol.{quiet}
-use Rattle.rowbytes.proofs.Rows.{put-past, placed-stored, placed-in}
+use Rattle.rowbytes.proofs.Rows.{put-past, placed-stored, put-in}
 use Rattle.rowbytes.proofs.put_placed.Statement.{statement}
 use Rattle.rowbytes.proofs.put_placed.Tie as tie
 
@@ -23,12 +21,12 @@ returns : tie.Need-returns
 returns c =
     let a = c .before .before .before .before .before .before .args in
     rw (c .before .before .blank .ensures)
-    (placed-stored (a .row .now) (102 * a .r) (a .use-number) ∙ placed-in (a .row .now) (a .r) (a .use-number) (c .before .before .before .before .if1 .taken))
+    (placed-stored (a .row .now) (102 * a .r) (a .use-number) ∙ put-in (a .row .now) (a .r) (a .use-number) (c .before .before .before .before .if1 .taken))
 
 returns-2 : tie.Need-returns-2
 returns-2 c =
     let a = c .before .before .args in
-    put-past (a .row .now) (a .r) (quiet Requesting Waiting (a .use-number)) (c .if1 .left)
+    put-past (a .row .now) (a .r) (a .use-number) (c .if1 .left)
 
 pub put-placed-spec : {M : Type 1} → statement M
 put-placed-spec =

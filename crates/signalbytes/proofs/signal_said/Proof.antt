@@ -8,13 +8,16 @@ returns : tie.Need-returns
 returns c = rw (eq-eqb _ 0 (c .if1 .taken))
 
 returns-2 : tie.Need-returns-2
-returns-2 c = rw (ne-eqb _ 0 (c .before .if1 .left), eq-eqb _ 1 (c .if2 .taken))
+returns-2 c = rw (ne-eqb _ 0 (c .before .if1 .left), eq-eqb _ 2 (c .if2 .taken))
 
 returns-3 : tie.Need-returns-3
-returns-3 c = rw (ne-eqb _ 0 (c .before .before .if1 .left), ne-eqb _ 1 (c .before .if2 .left), eq-eqb _ 2 (c .if3 .taken))
+returns-3 c = rw (ne-eqb _ 0 (c .before .before .if1 .left), ne-eqb _ 2 (c .before .if2 .left), eq-eqb _ 9 (c .if3 .taken))
 
 returns-4 : tie.Need-returns-4
-returns-4 c = rw (ne-eqb _ 0 (c .before .before .before .if1 .left), ne-eqb _ 1 (c .before .before .if2 .left), ne-eqb _ 2 (c .before .if3 .left), c .status-said .ensures)
+returns-4 c = rw (ne-eqb _ 0 (c .before .before .before .if1 .left), ne-eqb _ 2 (c .before .before .if2 .left), ne-eqb _ 9 (c .before .if3 .left), eq-eqb _ 10 (c .if4 .taken))
+
+returns-5 : tie.Need-returns-5
+returns-5 c = rw (ne-eqb _ 0 (c .before .before .before .before .if1 .left), ne-eqb _ 2 (c .before .before .before .if2 .left), ne-eqb _ 9 (c .before .before .if3 .left), ne-eqb _ 10 (c .before .if4 .left), c .status-said .ensures)
 
 pub signal-said-spec : {M : Type 1} → statement M
-signal-said-spec = tie.close (tie.spec returns returns-2 returns-3 (λ c κs. search needs) returns-4)
+signal-said-spec = tie.close (tie.spec returns returns-2 returns-3 returns-4 (λ c κs. search needs) returns-5)

@@ -19,7 +19,10 @@ returns-5 : tie.Need-returns-5
 returns-5 c = rw (ne-eqb _ 3 (c .before .before .before .before .if1 .left), ne-eqb _ 4 (c .before .before .before .if2 .left), ne-eqb _ 5 (c .before .before .if3 .left), ne-eqb _ 6 (c .before .if4 .left), eq-eqb _ 7 (c .if5 .taken))
 
 returns-6 : tie.Need-returns-6
-returns-6 c = rw (ne-eqb _ 3 (c .before .before .before .before .if1 .left), ne-eqb _ 4 (c .before .before .before .if2 .left), ne-eqb _ 5 (c .before .before .if3 .left), ne-eqb _ 6 (c .before .if4 .left), ne-eqb _ 7 (c .if5 .left))
+returns-6 c = rw (ne-eqb _ 3 (c .before .before .before .before .before .if1 .left), ne-eqb _ 4 (c .before .before .before .before .if2 .left), ne-eqb _ 5 (c .before .before .before .if3 .left), ne-eqb _ 6 (c .before .before .if4 .left), ne-eqb _ 7 (c .before .if5 .left), eq-eqb _ 8 (c .if6 .taken))
+
+returns-7 : tie.Need-returns-7
+returns-7 c = rw (ne-eqb _ 3 (c .before .before .before .before .before .if1 .left), ne-eqb _ 4 (c .before .before .before .before .if2 .left), ne-eqb _ 5 (c .before .before .before .if3 .left), ne-eqb _ 6 (c .before .before .if4 .left), ne-eqb _ 7 (c .before .if5 .left), ne-eqb _ 8 (c .if6 .left))
 
 pub status-said-spec : {M : Type 1} → statement M
-status-said-spec = tie.close (tie.spec returns returns-2 returns-3 returns-4 returns-5 returns-6)
+status-said-spec = tie.close (tie.spec returns returns-2 returns-3 returns-4 returns-5 returns-6 returns-7)
