@@ -66,16 +66,29 @@ static void all_taken_but(size_t r) {
         if (c.number) printf("refused: %llu\n", (unsigned long long)c.number), exit(1);                                                    \
         return c.signal;                                                                                                                   \
     }                                                                                                                                      \
-    /* answered, a status and a tone one way, a status the other way, torn down by the caller: all delivered, and the record free again */ \
+    /* answered, a special and a status one way, a status the other way, torn down by the caller: all delivered, and the record free again */ \
     static void name##_talk(dfc_placed p) {                                                                                                \
         sink += name##_do(p, DFC_ACCEPT, 0, 0, 0, 0) + name##_do(p, DFC_DELIVER, DFC_CALLER, 0, 0, 0);                                     \
-        sink += name##_do(p, DFC_SEND, DFC_CALLEE, DFC_AVAIL, 0, 0) + name##_do(p, DFC_SEND, DFC_CALLER, DFC_DTMF, 1, 5);                  \
+        sink += name##_do(p, DFC_SEND, DFC_CALLEE, DFC_AVAIL, 0, 0) + name##_do(p, DFC_SEND, DFC_CALLER, DFC_SPECIAL, 0, 5);               \
         sink += name##_do(p, DFC_SEND, DFC_CALLER, DFC_NONE, 0, 0) + name##_do(p, DFC_DELIVER, DFC_CALLER, 0, 0, 0);                       \
         sink += name##_do(p, DFC_DELIVER, DFC_CALLEE, 0, 0, 0) + name##_do(p, DFC_DELIVER, DFC_CALLEE, 0, 0, 0);                           \
         sink += name##_do(p, DFC_SEND_TEARDOWN, DFC_CALLER, 0, 0, 0) + name##_do(p, DFC_DELIVER, DFC_CALLEE, 0, 0, 0);                     \
         sink += name##_do(p, DFC_DELIVER, DFC_CALLER, 0, 0, 0);                                                                            \
     }                                                                                                                                      \
     static void name##_life(void) { name##_talk(name##_placed()); }                                                                        \
+    static void name##_sent(dfc_placed p, uint8_t by, uint8_t signal, uint8_t tunnel, uint8_t code) {                                      \
+        sink += name##_do(p, DFC_SEND, by, signal, tunnel, code) + name##_do(p, DFC_DELIVER, 1 - by, 0, 0, 0);                             \
+    }                                                                                                                                      \
+    /* answered; a channel opened, acknowledged and readied, ten tones in it, closed; torn down: 35 commands */                            \
+    static void name##_channel(void) {                                                                                                     \
+        dfc_placed p = name##_placed();                                                                                                    \
+        sink += name##_do(p, DFC_ACCEPT, 0, 0, 0, 0) + name##_do(p, DFC_DELIVER, DFC_CALLER, 0, 0, 0);                                     \
+        name##_sent(p, DFC_CALLER, DFC_OPEN, 1, 0), name##_sent(p, DFC_CALLEE, DFC_OACK, 1, 0), name##_sent(p, DFC_CALLER, DFC_READY, 1, 0); \
+        for (uint8_t k = 0; k < 10; k++) name##_sent(p, DFC_CALLER, DFC_DTMF, 1, k);                                                       \
+        name##_sent(p, DFC_CALLER, DFC_CLOSE, 1, 0), name##_sent(p, DFC_CALLEE, DFC_CLOSEACK, 1, 0);                                       \
+        sink += name##_do(p, DFC_SEND_TEARDOWN, DFC_CALLER, 0, 0, 0) + name##_do(p, DFC_DELIVER, DFC_CALLEE, 0, 0, 0);                     \
+        sink += name##_do(p, DFC_DELIVER, DFC_CALLER, 0, 0, 0);                                                                            \
+    }                                                                                                                                      \
     static void name##_commands(void) {                                                                                                    \
         name##_state(free_record, 1, 2);                                                                                                   \
         name##_talk((dfc_placed){.record_number = free_record, .use_number = name##_use(free_record)});                                    \
@@ -185,6 +198,7 @@ static void call_rows(const char *where, size_t r) {
     named_row("place in 1,024", where, ours_place, peers_place);
     named_row("a call's life", where, ours_life, peers_life);
     named_row("its 11 commands", where, ours_commands, peers_commands);
+    named_row("a call's life, one channel", where, ours_channel, peers_channel);
 }
 
 int main(void) {

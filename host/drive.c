@@ -23,7 +23,7 @@ static peer_call peers_row[RECORDS_MAX], peers_port;
 static size_t row_size;
 static uint8_t record_before[DFC_CALL];
 
-static uint64_t seed, number, done[OPERATIONS], accepted[OPERATIONS];
+static uint64_t seed, number, done[OPERATIONS], accepted[OPERATIONS], channel_commands, channel_accepted;
 static any_plan p;
 static uint8_t file[FILE_MAX];
 static size_t file_size;
@@ -77,6 +77,7 @@ static void show(const input *i, const char *who, const output *o) {
 
 static void show_struct(const peer_call *c) {
     printf("  the peer's record: states %u %u use %u\n", c->state[0], c->state[1], c->use);
+    hex("the peer's channels", c->channel[0], sizeof c->channel);
     for (int e = 0; e < 2; e++) {
         printf("    %u wait for the %s:", c->to[e].count, e ? "callee" : "caller");
         for (unsigned k = 0; k < 16 && k < c->to[e].count; k++) {
@@ -152,12 +153,14 @@ SIDE(peer, peers_row, records(), &peers_port)
 
 /* ---- a record's bytes, as dfc.h has them */
 
+enum { CHANNELS = 102 }; /* the caller's 256 and the callee's 256 */
+
 static int carries_nothing(uint8_t kind) { return kind == DFC_UPACK || kind == DFC_TEARDOWN || kind == DFC_DOWNACK; }
 
 static peer_signal signal_read(const uint8_t *b) {
     peer_signal w = {b[0], b[1], b[2]};
     if (w.kind == 0) w.kind = DFC_UPACK;
-    if (w.kind == 1 || w.kind > DFC_DOWNACK) w.kind = DFC_DTMF, w.code = 255;
+    if (w.kind == 1 || w.kind > DFC_CLOSEACK) w.kind = DFC_DTMF, w.code = 255;
     if (carries_nothing(w.kind)) w.tunnel = 0;
     if (w.kind != DFC_DTMF && w.kind != DFC_SPECIAL) w.code = 0;
     return w;
@@ -169,6 +172,7 @@ static uint8_t state_read(uint8_t b) { return b > PEER_UNLINKING ? PEER_UNLINKIN
 static void read_record(rng *r, const uint8_t *b, peer_call *c) {
     c->state[0] = state_read(b[0]), c->state[1] = state_read(b[1]);
     c->use = (uint16_t)(b[2] << 8 | b[3]);
+    memcpy(c->channel, b + CHANNELS, sizeof c->channel);
     for (int e = 0; e < 2; e++) {
         const uint8_t *q = b + (e ? 53 : 4);
         c->to[e].head = (uint8_t)below(r, 16), c->to[e].count = q[0];
@@ -176,9 +180,10 @@ static void read_record(rng *r, const uint8_t *b, peer_call *c) {
     }
 }
 
-/* Whether the record of these bytes is the peer's: states, use number, and what waits, in order. */
+/* Whether the record of these bytes is the peer's: states, use number, channels, and what waits, in order. */
 static int same_record(const uint8_t *b, const peer_call *c) {
     if (state_read(b[0]) != c->state[0] || state_read(b[1]) != c->state[1] || (b[2] << 8 | b[3]) != c->use) return 0;
+    if (memcmp(b + CHANNELS, c->channel, sizeof c->channel) != 0) return 0;
     for (int e = 0; e < 2; e++) {
         const uint8_t *q = b + (e ? 53 : 4);
         if (q[0] != c->to[e].count) return 0;
@@ -204,10 +209,23 @@ static void due_sent(uint8_t *q, uint8_t kind, uint8_t tunnel, uint8_t code) {
     q[0]++;
 }
 
+/* What a channel's byte becomes at the end that sent a signal in its tunnel, or was handed one; a status leaves it. */
+static uint8_t due_channel(uint8_t was, int sent, uint8_t kind) {
+    switch (kind) {
+    case DFC_OPEN: return 1;
+    case DFC_OACK: return sent || was == 1 ? 2 : was;
+    case DFC_ONACK: return sent || was == 1 ? 8 : was;
+    case DFC_READY: return sent || was == 2 ? 3 : was;
+    case DFC_CLOSE: return sent ? 4 : was == 4 ? 5 : 7;
+    case DFC_CLOSEACK: return sent && was == 5 ? 6 : 8;
+    default: return was;
+    }
+}
+
 /* An accepted command on the record b. */
 static void due_command(uint8_t *b, const input *i) {
     int me = i->command <= DFC_UNOBTAINABLE || i->of_side != 0;
-    uint8_t *in = b + (me ? 53 : 4), *out = b + (me ? 4 : 53), first = in[1];
+    uint8_t *in = b + (me ? 53 : 4), *out = b + (me ? 4 : 53), *channel = b + CHANNELS + 256 * me, first = in[1], tunnel = in[2];
     switch (i->command) {
     case DFC_ACCEPT:
         b[me] = 3;
@@ -220,6 +238,7 @@ static void due_command(uint8_t *b, const input *i) {
         break;
     case DFC_SEND:
         b[me] = 3;
+        if (i->tunnel) channel[i->tunnel] = due_channel(channel[i->tunnel], 1, i->signal);
         due_sent(out, i->signal, i->tunnel, i->signal == DFC_DTMF || i->signal == DFC_SPECIAL ? i->code : 0);
         break;
     case DFC_SEND_TEARDOWN:
@@ -233,7 +252,10 @@ static void due_command(uint8_t *b, const input *i) {
         if (first == DFC_TEARDOWN) b[me] = b[me] == 3 ? 0 : 4, due_sent(out, DFC_DOWNACK, 0, 0);
         else if (first == DFC_DOWNACK) b[me] = 0;
         else if (first == DFC_UPACK || first == 0) b[me] = 3;
-        else if (b[me] != 3) b[me] = 4;
+        else {
+            if (b[me] != 3) b[me] = 4;
+            if (tunnel) channel[tunnel] = due_channel(channel[tunnel], 0, first);
+        }
     }
     if (FAULT(18))
         for (uint8_t *q = b + 4; q <= b + 53; q += 49) memset(q + 1 + 3 * q[0], 0, 3 * (16u - q[0]));
@@ -303,7 +325,9 @@ static uint32_t r4(const uint8_t *b) { return (uint32_t)b[0] << 24 | (uint32_t)b
 enum { REGION = 3, SOURCE = 7, TARGET = 14, ROUTE_AT = 21, PLACING = 25, OUTER = 30, STRING = 38, LIST = 74 };
 
 static void setup_heads(uint8_t *b) {
-    static const struct { uint8_t at, tag, length; } head[9] = {{0, 1, 1}, {4, 2, 4}, {11, 3, 4}, {18, 4, 1}, {22, 5, 2}, {27, 6, 5}, {35, 7, 33}, {71, 8, 33}, {107, 127, 0}};
+    static const struct {
+        uint8_t at, tag, length;
+    } head[9] = {{0, 1, 1}, {4, 2, 4}, {11, 3, 4}, {18, 4, 1}, {22, 5, 2}, {27, 6, 5}, {35, 7, 33}, {71, 8, 33}, {107, 127, 0}};
     memset(b, 0, DFC_SETUP);
     for (int k = 0; k < 9; k++) b[head[k].at] = head[k].tag, w2(b + head[k].at + 1, head[k].length);
 }
@@ -391,6 +415,12 @@ static void some_bytes(rng *r, uint8_t *b, size_t n) {
     while (n--) *b++ = (uint8_t)(rnd(r) >> 40);
 }
 
+/* the first and the last that each side opens, and 0; seldom another */
+static uint8_t some_tunnel(rng *r) {
+    static const uint8_t tunnels[5] = {1, 2, 254, 255, 0};
+    return chance(r, 16) ? (uint8_t)(rnd(r) >> 40) : tunnels[below(r, chance(r, 8) ? 5 : 4)];
+}
+
 /* a record: cleared, all junk, or with junk in each of its fields that is seldom far out */
 static void some_record(rng *r, uint8_t *b) {
     if (chance(r, 3)) {
@@ -401,17 +431,21 @@ static void some_record(rng *r, uint8_t *b) {
     some_bytes(r, b, DFC_CALL);
     if (chance(r, 8)) return;
     b[0] = (uint8_t)below(r, 6), b[1] = (uint8_t)below(r, 6);
+    if (chance(r, 2)) b[0] = (uint8_t)(3 + below(r, 2)), b[1] = (uint8_t)(3 + below(r, 2));
+    for (int k = 0; k < 24; k++) b[CHANNELS + 256 * below(r, 2) + some_tunnel(r)] = (uint8_t)below(r, 10);
     for (int q = 4; q <= 53; q += 49) {
         b[q] = (uint8_t)(chance(r, 2) ? below(r, 4) : 12 + below(r, 6));
         for (int k = 1; k < 49; k += 3) {
-            b[q + k] = (uint8_t)below(r, DFC_DOWNACK + 2), b[q + k + 1] = (uint8_t)(chance(r, 2) ? 0 : below(r, 3)), b[q + k + 2] = (uint8_t)below(r, 14);
-            if (chance(r, 2)) b[q + k] = (uint8_t)(DFC_UNKNOWN + below(r, 6)); /* what a linked end may take */
+            b[q + k] = (uint8_t)below(r, DFC_CLOSEACK + 2), b[q + k + 1] = chance(r, 2) ? 0 : some_tunnel(r), b[q + k + 2] = (uint8_t)below(r, 14);
+            if (chance(r, 4)) b[q + k] = (uint8_t)(DFC_UNKNOWN + below(r, 6)); /* what a linked end may take */
+            if (chance(r, 2)) b[q + k] = (uint8_t)(DFC_DTMF + below(r, 10)), b[q + k + 1] = some_tunnel(r);
         }
         if (chance(r, 4)) b[q + 1] = chance(r, 2) ? DFC_TEARDOWN : chance(r, 2) ? DFC_UPACK : DFC_DOWNACK;
     }
 }
 
 static uint32_t sends; /* of 8 commands on this row, so many are sends */
+static unsigned row_cases; /* for so many cases this row */
 
 /* A new row and port: junk, cleared, or with a call placed in every other record. */
 static void some_row(rng *r) {
@@ -419,7 +453,9 @@ static void some_row(rng *r) {
     row_size = n * DFC_CALL + (chance(r, 2) ? 0 : below(r, DFC_CALL));
     some_bytes(r, ours_lent.row, row_size + JUNK);
     some_bytes(r, ours_lent.port, sizeof ours_lent.port);
-    if (chance(r, 3)) {
+    row_cases = n > 4 ? 24 : 320;
+    if (chance(r, 2)) {
+        if (n <= 4) row_cases = 64;
         for (size_t k = 0; k < n; k++) some_record(r, ours_lent.row + k * DFC_CALL);
         some_record(r, ours_lent.port);
     } else {
@@ -445,13 +481,47 @@ static int free_records(int all) {
     return 1;
 }
 
+static int would_be_accepted(const peer_call *c, const input *i) {
+    peer_call trial = *c;
+    return peer_port_command(&trial, i->command, i->of_side, i->signal, i->tunnel, i->code).number == 0;
+}
+
+/* any channel's signal, in any state */
+static void channel_command(rng *r, input *i) {
+    i->command = DFC_SEND;
+    i->of_side = (uint8_t)below(r, 2);
+    i->signal = (uint8_t)(DFC_OPEN + below(r, 6));
+    i->tunnel = some_tunnel(r);
+    i->code = (uint8_t)(rnd(r) >> 40);
+}
+
+/* One of the steps that the channels of this call can take, if there is one; mostly no close, so that channels come to be readied. */
+static int channel_step(rng *r, input *i, const peer_call *c) {
+    input found = *i;
+    uint32_t n = 0;
+    int closing = chance(r, 3);
+    uint8_t tunnels[4] = {1, 2, 254, 255};
+    if (chance(r, 8)) tunnels[below(r, 4)] = (uint8_t)(rnd(r) >> 40);
+    i->command = DFC_SEND, i->code = (uint8_t)below(r, 12);
+    for (int of = 0; of < 2; of++)
+        for (int t = 0; t < 4 && c->state[of] == PEER_LINKED; t++)
+            for (int kind = DFC_DTMF; kind <= DFC_CLOSEACK; kind++) {
+                if (kind == DFC_TEARDOWN || kind == DFC_DOWNACK) continue;
+                if (kind == DFC_CLOSE && (!closing || (c->channel[of][tunnels[t]] == PEER_OPENING && !chance(r, 6)))) continue;
+                i->of_side = (uint8_t)of, i->signal = (uint8_t)kind, i->tunnel = tunnels[t];
+                if (would_be_accepted(c, i) && chance(r, ++n)) found = *i;
+            }
+    *i = found;
+    return n != 0;
+}
+
 static void any_command(rng *r, input *i) {
-    static const uint8_t others[16] = {DFC_ACCEPT,  DFC_ACCEPT,  DFC_ACCEPT,  DFC_BUSY,    DFC_UNOBTAINABLE, DFC_SEND_TEARDOWN, DFC_SEND_TEARDOWN, DFC_DELIVER,
+    static const uint8_t others[16] = {DFC_ACCEPT,  DFC_ACCEPT,  DFC_ACCEPT,  DFC_BUSY,    DFC_UNOBTAINABLE, DFC_SEND_TEARDOWN, DFC_DELIVER, DFC_DELIVER,
                                        DFC_DELIVER, DFC_DELIVER, DFC_DELIVER, DFC_DELIVER, DFC_DELIVER,      DFC_DELIVER,       DFC_DELIVER,       DFC_DELIVER};
-    i->command = (uint8_t)(chance(r, 24) ? chance(r, 2) ? 6 + below(r, 3) : rnd(r) >> 40 : below(r, 8) < sends ? DFC_SEND : others[below(r, 16)]);
+    i->command = (uint8_t)(chance(r, 16) ? chance(r, 2) ? 6 + below(r, 3) : rnd(r) >> 40 : below(r, 8) < sends ? DFC_SEND : others[below(r, 16)]);
     i->of_side = (uint8_t)(chance(r, 16) ? rnd(r) >> 40 : below(r, 2));
     i->signal = (uint8_t)(chance(r, 16) ? chance(r, 2) ? below(r, 20) : rnd(r) >> 40 : DFC_UNKNOWN + below(r, 6));
-    i->tunnel = (uint8_t)(i->signal < DFC_DTMF && !chance(r, 16) ? 0 : chance(r, 2) ? below(r, 3) : rnd(r) >> 40);
+    i->tunnel = i->signal < DFC_DTMF && !chance(r, 16) ? 0 : some_tunnel(r);
     i->code = (uint8_t)(!chance(r, 8) ? below(r, 12) : rnd(r) >> 40);
 }
 
@@ -465,20 +535,29 @@ static void some_command(rng *r, input *i) {
     if (chance(r, 24)) i->record_number = chance(r, 2) ? n + below(r, 3) : (size_t)rnd(r);
     const peer_call *c = i->op == PORT_COMMAND ? &peers_port : i->record_number < n ? &peers_row[i->record_number] : NULL;
     i->use_number = (uint16_t)(chance(r, 24) || !c ? below(r, 65536) : c->use);
-    int tries = c && !chance(r, 4) ? 12 : 0;
-    do {
+    uint32_t k = below(r, 16);
+    if (!c || k < 4) { /* what comes */
+        if (below(r, 8) < 5) channel_command(r, i);
+        else any_command(r, i);
+        return;
+    }
+    if (k < 12 && channel_step(r, i, c)) return;
+    if (k < 14 && sends < 7 && (c->to[0].count || c->to[1].count)) {
+        i->command = DFC_DELIVER; /* in some rows seldom, so that queues fill */
+        i->of_side = c->to[0].count == 0 || (c->to[1].count && chance(r, 2));
+        if (would_be_accepted(c, i)) return;
+    }
+    for (int tries = 0; tries < 12; tries++) {
         any_command(r, i);
-        if (tries == 0) break;
-        peer_call trial = *c;
-        if (peer_port_command(&trial, i->command, i->of_side, i->signal, i->tunnel, i->code).number == 0) break;
-    } while (tries-- > 0);
+        if (would_be_accepted(c, i)) break;
+    }
 }
 
 static void some_input(rng *r, input *i) {
     memset(i, 0, sizeof *i);
     uint32_t k = below(r, 32);
-    i->op = k < 1 ? CHECK : k < 2 ? WRITE : k < 3 ? ZONE : k < 5 ? NEW : k < 8 ? CONTINUED : k < 10 ? REVERSED : k < 13 ? ROUTE : k < 16 ? PLACE : k < 18 ? PORT_PLACE
-          : k < 26 ? COMMAND : chance(r, 64) ? CLEAR : PORT_COMMAND;
+    i->op = k < 1 ? CHECK : k < 2 ? WRITE : k < 3 ? ZONE : k < 5 ? NEW : k < 8 ? CONTINUED : k < 10 ? REVERSED : k < 13 ? ROUTE : k < 16 ? PLACE
+          : k < 18 ? PORT_PLACE : k < 26 ? COMMAND : chance(r, 64) ? CLEAR : PORT_COMMAND;
     if (i->op == REVERSED && !p.set[2] && !chance(r, 8)) i->op = CONTINUED; /* nothing could be reversed */
     /* calls are mostly placed where a record is free, and commanded where one is taken */
     if (i->op == PLACE && free_records(0) && !chance(r, 4)) i->op = COMMAND;
@@ -519,6 +598,29 @@ static void some_plan(rng *r) {
     pooled = 0;
 }
 
+/* Every byte of a channel with every signal, sent and handed over, at both ends and in tunnels of both: each line of the tables, and each that is not there. */
+static int sweep(void) {
+    static const uint8_t tunnels[5] = {0, 1, 2, 254, 255};
+    static output ours, peers;
+    rng r = {seed + 1};
+    for (unsigned k = 0; k < 256 * 18 * 5 * 2 * 3; k++) {
+        unsigned state = k % 256, kind = k / 256 % 18, tunnel = tunnels[k / (256 * 18) % 5], of = k / (256 * 18 * 5) % 2, way = k / (256 * 18 * 5 * 2);
+        input i = {.op = PORT_COMMAND, .of_side = (uint8_t)of, .signal = (uint8_t)kind, .tunnel = (uint8_t)tunnel, .code = 5};
+        i.command = way == 0 ? DFC_SEND : DFC_DELIVER;
+        uint8_t *b = ours_lent.port, *q = b + (of ? 53 : 4);
+        memset(b, 0, DFC_CALL);
+        b[0] = b[1] = PEER_LINKED;
+        if (way == 2) b[of] = PEER_UNLINKING; /* which takes what a linked end takes, and downack */
+        if (way != 0) q[0] = 1, q[1] = (uint8_t)kind, q[2] = (uint8_t)tunnel, q[3] = 5;
+        b[CHANNELS + 256 * of + tunnel] = (uint8_t)state;
+        memcpy(due.port, ours_lent.port, sizeof due.port), memcpy(record_before, b, DFC_CALL);
+        read_record(&r, b, &peers_port);
+        dfc_run(&i, &ours), peer_run(&i, &peers);
+        if (memcmp(&ours.said, &peers.said, sizeof ours.said) != 0 || !bytes_agree(&i, &ours.said)) return differ(&i, &ours, &peers);
+    }
+    return 0;
+}
+
 #ifdef PEER_FAULTS
 int peer_fault;
 #endif
@@ -536,8 +638,9 @@ int main(int argc, char **argv) {
         input i;
         if (left == 0) some_plan(&r), left = 16;
         if (calls_left == 0) {
-            if (!same_row()) return printf("DIFFERENCE seed %llu case %llu: another record of the row\n", (unsigned long long)seed, (unsigned long long)number), 1;
-            some_row(&r), calls_left = records() > 4 ? 24 : 256;
+            if (!same_row())
+                return printf("DIFFERENCE seed %llu case %llu: another record of the row\n", (unsigned long long)seed, (unsigned long long)number), 1;
+            some_row(&r), calls_left = row_cases;
         }
         some_input(&r, &i);
         /* all that may be lent is junk before; the long room only where it is lent, and nothing for a command */
@@ -553,13 +656,16 @@ int main(int argc, char **argv) {
             (i.op >= PLACE && !bytes_agree(&i, &ours.said)))
             return differ(&i, &ours, &peers);
         done[i.op]++;
+        if ((i.op == COMMAND || i.op == PORT_COMMAND) && i.command == DFC_SEND && i.signal >= DFC_OPEN && i.signal <= DFC_CLOSEACK)
+            channel_commands++, channel_accepted += ours.said.number == 0;
         if (ours.said.number == 0) {
             accepted[i.op]++;
             if (i.op >= NEW && i.op <= PORT_PLACE) memcpy(pool[pooled++ % 16], ours.made, DFC_SETUP);
         }
     }
+    if (sweep()) return 1;
     printf("seed %llu: %llu cases, 0 differences (accepted of done:", (unsigned long long)seed, (unsigned long long)cases);
     for (int k = 0; k < OPERATIONS; k++) printf(" %s %llu/%llu", name[k], (unsigned long long)accepted[k], (unsigned long long)done[k]);
-    printf(")\n");
+    printf("; of the commands, channel signals sent %llu/%llu)\n", (unsigned long long)channel_accepted, (unsigned long long)channel_commands);
     return 0;
 }

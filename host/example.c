@@ -8,7 +8,8 @@
 int main(int argc, char **argv) {
     static uint8_t plan[8192];
     static const char *const box[] = {"feature", "line", "trunk", "resource", "error"};
-    static const char *const signal[] = {"", "setup", "upack", "unknown", "avail", "unavail", "none", "dtmf", "special", "teardown", "downack"};
+    static const char *const signal[] = {"", "setup", "upack", "unknown", "avail", "unavail", "none", "dtmf", "special", "teardown", "downack",
+                                          "open", "oack", "onack", "ready", "close", "closeack"};
     uint8_t sent[DFC_SETUP], got[DFC_SETUP], source[32], target[32], row[8 * DFC_CALL];
     FILE *f = argc == 4 ? fopen(argv[1], "rb") : NULL;
     if (f == NULL) return fprintf(stderr, "usage: example FILE SOURCE STRING\n"), 2;

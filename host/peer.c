@@ -488,7 +488,7 @@ static peer_signal pop(peer_ring *q) {
     return first;
 }
 
-/* Whether a signal is on document 01's list of ordinary signals. */
+/* Whether a signal is an ordinary one: document 01's list, and with document 02 the six of the channels. */
 static bool ordinary(uint8_t kind, uint8_t tunnel, uint8_t code) {
     switch (kind) {
     case DFC_UNKNOWN:
@@ -497,8 +497,66 @@ static bool ordinary(uint8_t kind, uint8_t tunnel, uint8_t code) {
     case DFC_NONE: return tunnel == 0;
     case DFC_DTMF: return tunnel != 0 && code < 12;
     case DFC_SPECIAL: return true;
-    default: return false;
+    default: return kind >= DFC_OPEN && kind <= DFC_CLOSEACK;
     }
+}
+
+/* ---- channels: manual 9.4's two programs, step by step as they are printed. No step leads back to unused, so 0 stands for no step. */
+
+enum { ACTIVE, PASSIVE };
+enum { OUT, IN };
+enum { OPEN, OACK, ONACK, READY, CLOSE, CLOSEACK, STATUS, EVENTS };
+
+static const uint8_t printed[2][2][PEER_CHANNEL_STATES][EVENTS] = {
+    [ACTIVE] = {
+        [OUT] = {
+            [PEER_UNUSED] = {[OPEN] = PEER_OPENING},
+            [PEER_OPENING] = {[CLOSE] = PEER_CLOSING},
+            [PEER_OACKED] = {[READY] = PEER_READIED, [CLOSE] = PEER_CLOSING},
+            [PEER_READIED] = {[STATUS] = PEER_READIED, [CLOSE] = PEER_CLOSING},
+            [PEER_CLOSING2] = {[CLOSEACK] = PEER_CLOSING3},
+            [PEER_CLOSED] = {[CLOSEACK] = PEER_ENDED},
+        },
+        [IN] = {
+            [PEER_OPENING] = {[OACK] = PEER_OACKED, [ONACK] = PEER_ENDED},
+            [PEER_OACKED] = {[CLOSE] = PEER_CLOSED},
+            [PEER_READIED] = {[STATUS] = PEER_READIED, [CLOSE] = PEER_CLOSED},
+            [PEER_CLOSING] = {[OACK] = PEER_CLOSING, [ONACK] = PEER_CLOSING, [STATUS] = PEER_CLOSING, [CLOSE] = PEER_CLOSING2, [CLOSEACK] = PEER_ENDED},
+            [PEER_CLOSING2] = {[CLOSEACK] = PEER_ENDED},
+            [PEER_CLOSING3] = {[CLOSEACK] = PEER_ENDED},
+        },
+    },
+    [PASSIVE] = {
+        [OUT] = {
+            [PEER_OPENING] = {[OACK] = PEER_OACKED, [ONACK] = PEER_ENDED},
+            [PEER_OACKED] = {[CLOSE] = PEER_CLOSING},
+            [PEER_READIED] = {[STATUS] = PEER_READIED, [CLOSE] = PEER_CLOSING},
+            [PEER_CLOSING2] = {[CLOSEACK] = PEER_CLOSING3},
+            [PEER_CLOSED] = {[CLOSEACK] = PEER_ENDED},
+        },
+        [IN] = {
+            [PEER_UNUSED] = {[OPEN] = PEER_OPENING},
+            [PEER_OPENING] = {[CLOSE] = PEER_CLOSED},
+            [PEER_OACKED] = {[READY] = PEER_READIED, [CLOSE] = PEER_CLOSED},
+            [PEER_READIED] = {[STATUS] = PEER_READIED, [CLOSE] = PEER_CLOSED},
+            /* the ready is the house's step: it may have been sent before our close came */
+            [PEER_CLOSING] = {[READY] = PEER_CLOSING, [STATUS] = PEER_CLOSING, [CLOSE] = PEER_CLOSING2, [CLOSEACK] = PEER_ENDED},
+            [PEER_CLOSING2] = {[CLOSEACK] = PEER_ENDED},
+            [PEER_CLOSING3] = {[CLOSEACK] = PEER_ENDED},
+            [PEER_ENDED] = {[CLOSE] = PEER_CLOSED},
+        },
+    },
+};
+
+/* The caller opens odd tunnels, the callee even ones (9.3). */
+static bool may_open(unsigned me, uint8_t tunnel) { return (tunnel % 2 == 1) == (me == (FAULT(20) ? DFC_CALLEE : DFC_CALLER)); }
+
+/* What becomes of an end's channel with a signal that it sends or is handed; 0 where there is no step. Only in tunnel 0 a status needs none. */
+static uint8_t channel_step(const peer_call *c, unsigned me, int way, uint8_t kind, uint8_t tunnel) {
+    uint8_t state = c->channel[me][tunnel], event = kind >= DFC_OPEN ? kind - DFC_OPEN : STATUS;
+    if (tunnel == 0 || state >= PEER_CHANNEL_STATES) return 0;
+    if (FAULT(19) && way == IN && event == READY && state == PEER_CLOSING) return 0;
+    return printed[may_open(me, tunnel) ? ACTIVE : PASSIVE][way][state][event];
 }
 
 /* The callee's one answer. */
@@ -520,8 +578,12 @@ static dfc_commanded speaks(peer_call *c, unsigned me, uint8_t kind, uint8_t tun
     peer_ring *out = &c->to[1 - me];
     if (c->state[me] != PEER_LINKED) return said(12);
     if (!ordinary(kind, tunnel, code)) return said(15);
+    bool in_channel = tunnel != 0 || kind >= DFC_OPEN;
+    uint8_t next = in_channel ? channel_step(c, me, OUT, kind, tunnel) : 0;
+    if (in_channel && next == 0) return said(kind == DFC_OPEN && !FAULT(21) ? 40 : 41);
     if (out->count >= (FAULT(12) ? 15 : 14)) return said(13);
-    push(out, kind, tunnel, kind >= DFC_DTMF ? code : 0);
+    push(out, kind, tunnel, kind == DFC_DTMF || kind == DFC_SPECIAL ? code : 0);
+    if (in_channel) c->channel[me][tunnel] = next;
     return said(0);
 }
 
@@ -539,6 +601,7 @@ static dfc_commanded takes(peer_call *c, unsigned me) {
     uint8_t state = c->state[me];
     if (in->count == 0) return said(14);
     peer_signal w = in->at[in->head];
+    uint8_t next = 0;
     bool talking = state == PEER_LINKED || state == PEER_UNLINKING;
     switch (w.kind) {
     case DFC_UPACK:
@@ -556,9 +619,11 @@ static dfc_commanded takes(peer_call *c, unsigned me) {
         break;
     default:
         if (!talking || !ordinary(w.kind, w.tunnel, w.code)) return said(17);
+        if ((w.tunnel != 0 || w.kind >= DFC_OPEN) && (next = channel_step(c, me, IN, w.kind, w.tunnel)) == 0) return said(17);
     }
     pop(in);
     c->state[me] = state;
+    if (next != 0) c->channel[FAULT(22) ? 1 - me : me][w.tunnel] = next;
     return (dfc_commanded){0, 1, w.kind, w.tunnel, w.code};
 }
 
@@ -603,6 +668,7 @@ dfc_placed peer_place(const uint8_t *file, size_t file_size, const uint8_t *sent
     c->state[DFC_CALLER] = PEER_REQUESTING, c->state[DFC_CALLEE] = PEER_WAITING;
     c->use++;
     c->to[0].count = c->to[1].count = 0;
+    for (int e = 0; e < 2; e++) memset(c->channel[e], 0, FAULT(23) ? 255 : 256);
     return (dfc_placed){0, q.value, q.kind, q.box_number, q.address, r, c->use};
 }
 

@@ -1,4 +1,5 @@
-/* The peer: the operations of dfc.h a second time, written in C from document 01, the manual and dfc.h. It keeps calls in structs, with a ring for each queue. */
+/* The peer: the operations of dfc.h a second time, written in C from document 01, the manual and dfc.h. It keeps calls in structs, with a ring for each
+ * queue, and knows nothing of a record's bytes. */
 #ifndef PEER_H
 #define PEER_H
 #include "../include/dfc.h"
@@ -23,11 +24,16 @@ typedef struct {
     peer_signal at[16];
 } peer_ring;
 
-/* indexed by DFC_CALLER and DFC_CALLEE: an end's state, and what waits for it */
+/* A channel at one end, with the names of manual 9.4's opening end; the answering end is opened, oacking and readied where this one is opening, oacked and
+ * readying. Other numbers are a broken call's. */
+enum { PEER_UNUSED, PEER_OPENING, PEER_OACKED, PEER_READIED, PEER_CLOSING, PEER_CLOSING2, PEER_CLOSING3, PEER_CLOSED, PEER_ENDED, PEER_CHANNEL_STATES };
+
+/* indexed by DFC_CALLER and DFC_CALLEE: an end's state, what waits for it, and its channels by tunnel (place 0 is nobody's) */
 typedef struct {
     uint8_t state[2];
     uint16_t use;
     peer_ring to[2];
+    uint8_t channel[2][256];
 } peer_call;
 
 dfc_answer peer_check(const uint8_t *file, size_t file_size);

@@ -28,10 +28,13 @@
  *       another use                                   15  not an ordinary signal
  *   11  no free record                                16  a row of more than 1,024 records
  *   12  the end's state forbids it                    17  a broken record: a count above 16, a signal that the
- *   13  14 signals or more wait there already             end can't take, or no room for the signals sent
+ *   13  14 signals or more wait there already             end or its channel can't take, or no room for the
+ *                                                         signals sent
+ *   40  open: tunnel 0, a used one, or the other       41  the channel's state forbids it; or oack to closeack
+ *       side's to open                                     in tunnel 0
  * For 20 to 25 value is the place: in a plan file the first byte of the field, counted from 0, or of what follows the end field. For the others it is 0.
  * Of several refusals the plan file's comes first, then the lowest number; routing has 5 before 18, placing 5, 18, 16, 11; a command
- * has 16, 10, then 17 for a count, 12, 15, 13, 14, and 17 for the rest.
+ * has 16, 10, then 17 for a count, 12, 15, 40, 41, 13, 14, and 17 for the rest.
  *
  * EXAMPLE (host/example.c is a whole program that does this):
  *
@@ -133,39 +136,50 @@ dfc_routed dfc_route(const uint8_t *file, size_t file_size, const uint8_t *sent,
  *         2  the use number, high byte first
  *         4  how many signals wait for the caller (0 to 16), then 16 places of three bytes: signal, tunnel, code; the oldest first
  *        53  the same for the callee
+ *       102  the caller's channels, 256 bytes: the state of its end of the channel in each tunnel; the byte of tunnel 0 is nobody's
+ *       358  the same for the callee
+ * A channel's states, as in manual 9.4: 0 unused, 1 opening (at the side that opens) or opened (at the other), 2 oacked or oacking, 3 readying or readied,
+ * 4 closing, 5 closing2, 6 closing3, 7 closed, 8 ended. The caller opens the odd tunnels, the callee the even ones. The steps are those of the programs
+ * printed there, and one of the house: a side that answered, is closing and is handed ready takes it and stays.
  * A record is free when both states are 0. A row is a run of records one after the other: size / DFC_CALL of them, counted from 0, at most 1,024;
  * bytes past the last whole record are never looked at or written. A port is one record. The memory is the caller's, and so is what stands in it:
- * any bytes are a record. A state above 4 stands for 4. A signal 0 is an empty place's and stands for DFC_UPACK; 1 and any number above DFC_DOWNACK stand
+ * any bytes are a record. A state above 4 stands for 4. A signal 0 is an empty place's and stands for DFC_UPACK; 1 and any number above DFC_CLOSEACK stand
  * for a DFC_DTMF without a symbol (code 255), which no end takes: its delivery is 17. A tunnel or code that a signal has none of does not count, nor does
- * a place past the count.
+ * a place past the count. A channel's byte above 8 is no state: nothing may be sent in that tunnel from there, and what is delivered there is 17.
  * Placing writes all bytes of the record that takes the call: 1, 2, the use number, and zeros. A command that is accepted writes only what it changes: the
  * acting end's state; for each signal sent, its three bytes in the place of the count, and the count one higher; for a delivery, the 15 later places of
- * the queue one place down, 0 0 0 in the last, and the count one lower. Every other byte stays, whatever it is; a refusal leaves all of them.
+ * the queue one place down, 0 0 0 in the last, and the count one lower; for a signal in a tunnel from 1 on, that tunnel's byte of the acting end's
+ * channels, whether it sends the signal or is handed it. Every other byte stays, whatever it is; a refusal leaves all of them. An end that becomes idle
+ * leaves its channels as they are.
  *
  * PROVED of the bytes that are lent, rows and ports (crates/rowbytes/specs/Operations.antt), for any calls of these functions, refused ones included:
  * after dfc_clear no refusal is 17; and for a call that was placed in a record, whatever its bytes were before,
  *    while an end isn't idle, some command for the call is accepted: accept, the caller's teardown or a delivery (no deadlock);
  *    what an end sent is what the other was handed, and after that what waits for it (first in, first out);
+ *    what waits first for an end is fit for its channel there;
  *    after the first teardown the call closes in as many deliveries as document 01's third demand says, and until then some delivery is accepted.
  * This holds as long as nothing else writes the record. */
-#define DFC_CALL 102
+#define DFC_CALL 614
 
 /* Signals, with the numbers of records, commands and logs (1 is setup's, which waits in no queue). DFC_UPACK, DFC_TEARDOWN and DFC_DOWNACK carry nothing;
- * DFC_UNKNOWN to DFC_NONE are ordinary in tunnel 0; DFC_DTMF in a tunnel from 1 on with a code 0 to 9 for a digit, 10 for *, 11 for #; DFC_SPECIAL in any
- * tunnel with any code. */
-enum { DFC_UPACK = 2, DFC_UNKNOWN = 3, DFC_AVAIL = 4, DFC_UNAVAIL = 5, DFC_NONE = 6, DFC_DTMF = 7, DFC_SPECIAL = 8, DFC_TEARDOWN = 9, DFC_DOWNACK = 10 };
+ * the others are ordinary: DFC_UNKNOWN to DFC_NONE in tunnel 0; DFC_DTMF in a tunnel from 1 on with a code 0 to 9 for a digit, 10 for *, 11 for #; DFC_SPECIAL
+ * in any tunnel with any code; DFC_OPEN to DFC_CLOSEACK in a tunnel from 1 on. In a tunnel from 1 on DFC_DTMF and DFC_SPECIAL need a readied channel. */
+enum {
+    DFC_UPACK = 2, DFC_UNKNOWN = 3, DFC_AVAIL = 4, DFC_UNAVAIL = 5, DFC_NONE = 6, DFC_DTMF = 7, DFC_SPECIAL = 8, DFC_TEARDOWN = 9, DFC_DOWNACK = 10,
+    DFC_OPEN = 11, DFC_OACK = 12, DFC_ONACK = 13, DFC_READY = 14, DFC_CLOSE = 15, DFC_CLOSEACK = 16
+};
 /* Sides: any number but 0 is the callee. */
 enum { DFC_CALLER = 0, DFC_CALLEE = 1 };
 /* Commands. The callee answers once: accept, busy or unobtainable; these name no side. Send is an ordinary signal from a side, by signal (any number but
- * DFC_UNKNOWN to DFC_SPECIAL is no ordinary signal: 15), tunnel and code; teardown is from a side too; deliver hands the oldest signal that waits for a
- * side over to it. A number above is no command: it is refused as a send of no ordinary signal is (16, 10, 17 for a count, 12, 15).
+ * DFC_UNKNOWN to DFC_SPECIAL and DFC_OPEN to DFC_CLOSEACK is no ordinary signal: 15), tunnel and code; teardown is from a side too; deliver hands the oldest
+ * signal that waits for a side over to it. A number above is no command: it is refused as a send of no ordinary signal is (16, 10, 17 for a count, 12, 15).
  * Arguments that a command has no use for do not count. */
 enum { DFC_ACCEPT = 0, DFC_BUSY = 1, DFC_UNOBTAINABLE = 2, DFC_SEND = 3, DFC_SEND_TEARDOWN = 4, DFC_DELIVER = 5 };
 
 typedef struct {
     uint64_t number;    /* 0, or the refusal; beside a refusal the rest is 0 */
     uint64_t delivered; /* 1 where a signal was handed over: */
-    uint64_t signal;    /* DFC_UPACK .. DFC_DOWNACK */
+    uint64_t signal;    /* DFC_UPACK .. DFC_CLOSEACK */
     uint64_t tunnel;    /* 0 for a signal that has none */
     uint64_t code;      /* of DFC_DTMF and DFC_SPECIAL; else 0 */
 } dfc_commanded;
@@ -180,16 +194,16 @@ typedef struct {
     uint64_t use_number;    /* how often calls were placed there since it was cleared, modulo 65,536; commands name both */
 } dfc_placed;
 
-/* Every record of a row cleared: ends idle, queues empty, use number 0. With size DFC_CALL it clears a port.
+/* Every record of a row cleared: ends idle, queues empty, channels unused, use number 0. With size DFC_CALL it clears a port.
  * A row of any length is cleared. */
 void dfc_clear(uint8_t *row, size_t row_size);
 
 /* A call placed: the setup is routed as by dfc_route, and the lowest free record of the row takes the call, the caller requesting, the callee waiting,
- * the queues empty and the use number one higher (65,535 is followed by 0). Refusals 20 to 24, 5, 18, 16, 11; in a port 20 to 24, 5, 18, 11. */
+ * the queues empty, the channels unused and the use number one higher (65,535 is followed by 0). Refusals 20 to 24, 5, 18, 16, 11; in a port 20 to 24, 5, 18, 11. */
 dfc_placed dfc_place(const uint8_t *file, size_t file_size, const uint8_t *sent, size_t sent_size, uint8_t *row, size_t row_size,
                      uint8_t *source_list, size_t source_size, uint8_t *target_list, size_t target_size, uint8_t received[DFC_SETUP]);
 
-/* A command for the call in the record with this number and this use number. Refusals 16, 10, 12 to 15, 17. */
+/* A command for the call in the record with this number and this use number. Refusals 16, 10, 12 to 15, 17, 40, 41. */
 dfc_commanded dfc_command(uint8_t *row, size_t row_size, size_t record_number, uint16_t use_number, uint8_t kind, uint8_t side, uint8_t signal,
                           uint8_t tunnel, uint8_t code);
 

@@ -1,4 +1,4 @@
--- The call protocol (01 'Calls', manual 8): what a command on a call record answers, and the record after it. Every definition computes. Assumes nothing.
+-- The call protocol (01 'Calls', manual 8; channels: 02 'Ask 2', manual 9): what a command on a call record answers, and the record after it. Every definition computes. Assumes nothing.
 use Prim.Native.Nat.{ℕ, zero, suc, _+_, _-_, _%_}
 use mathlib.Core.Bool.{Bool, true, false, cond, _&&_}
 use mathlib.Core.List.{List, [], _∷_, _++_}
@@ -17,8 +17,8 @@ use Rattle.ends.specs.declared.Signal.the-variants.{Upack, Ordinary, Teardown, 
 use Rattle.call.specs.declared.Slot.{Slot}
 use Rattle.call.specs.declared.Queue.{Queue}
 use Rattle.call.specs.declared.Call.{Call}
-use Rattle.call.specs.declared.Side.{Side}
-use Rattle.call.specs.declared.Side.the-variants.{Caller, Callee}
+use Rattle.ends.specs.declared.Side.{Side}
+use Rattle.ends.specs.declared.Side.the-variants.{Caller, Callee}
 use Rattle.call.specs.declared.Command.{Command}
 use Rattle.call.specs.declared.Command.the-variants.{Accept, Busy, Unobtainable, Send, Teardown as Hang-up, Deliver}
 use Rattle.call.specs.declared.Answer.{Answer}
@@ -26,7 +26,7 @@ use Rattle.call.specs.declared.Answer.the-variants.{Accepted, Delivered,
 use Rattle.call.specs.declared.Step.{Step}
 use Rattle.ends.specs.declared.Verdict.{Verdict}
 use Rattle.ends.specs.declared.Verdict.the-variants.{Refuse as refuse, Become as become}
-pub use Rattle.ends.specs.Ends.{isIdle, isWaiting, isLinked, isOrdinary, to, answers, speaks, tears, hears, takes}
+pub use Rattle.ends.specs.Ends.{other, isIdle, isWaiting, isLinked, isOrdinary, within, passed, answers, speaks, tears, hears, takes}
 
 -- THE TWO SIDES
 -- Only the callee answers; every other command names the side it is for. That side's end acts.
@@ -37,10 +37,6 @@ actor Unobtainable = Callee
 actor (Send s t x) = s
 actor (Hang-up s) = s
 actor (Deliver s) = s
-
-abbrev pub other : Side → Side
-other Caller = Callee
-other Callee = Caller
 
 -- a side's end with its state, and the queue towards it
 abbrev pub endOf : Side → Call → End
@@ -99,18 +95,18 @@ abbrev pub pop : Queue → Queue
 pop q = record { slots = slotsFrom 15 1 (q .slots) ++ blank ∷ []; count = q .count - 1 }
 
 -- Delivery takes the head of what waits; 14 where nothing does.
-abbrev pub deliver : State → List Signal → Verdict
-deliver s [] = refuse NothingWaiting
-deliver s (x ∷ w) = takes s x
+abbrev pub deliver : Side → End → List Signal → Verdict
+deliver s e [] = refuse NothingWaiting
+deliver s e (x ∷ w) = takes s e x
 
--- What comes of a command for an end in state s, with the signals w waiting for it, and n signals waiting for the other end.
-abbrev pub decide : Command → State → List Signal → ℕ → Verdict
-decide Accept s w n = answers s Linked
-decide Busy s w n = answers s Unlinking
-decide Unobtainable s w n = answers s Unlinking
-decide (Send e tunnel x) s w n = speaks s tunnel x n
-decide (Hang-up e) s w n = tears s
-decide (Deliver e) s w n = deliver s w
+-- What comes of a command for an end, with the signals w waiting for it, and n signals waiting for the other end.
+abbrev pub decide : Command → End → List Signal → ℕ → Verdict
+decide Accept e w n = answers (e .state) Linked
+decide Busy e w n = answers (e .state) Unlinking
+decide Unobtainable e w n = answers (e .state) Unlinking
+decide (Send s tunnel x) e w n = speaks s e tunnel x n
+decide (Hang-up s) e w n = tears (e .state)
+decide (Deliver s) e w n = deliver s e w
 
 -- WHAT IS SENT
 -- A teardown that is handed over is answered by a downack; nothing else is.
@@ -130,16 +126,16 @@ sends (Send e tunnel x) w = Ordinary tunnel x ∷ []
 sends (Hang-up e) w = Teardown ∷ []
 sends (Deliver e) w = reply w
 
--- THE VERDICT, in 01's order
+-- THE VERDICT, in the order of 01 and, for 40 and 41, of 02
 -- 17 where the other end's queue would hold more than 16
 abbrev pub fit : Verdict → ℕ → Verdict
 fit (refuse r) n = refuse r
-fit (become e) n = cond (leb n 16) (become e) (refuse BrokenRecord)
+fit (become s) n = cond (leb n 16) (become s) (refuse BrokenRecord)
 
--- 12, 15, 13, 14, and then 17 for a signal that the end can't take and for no room
+-- 12, 15, 40, 41, 13, 14, and then 17 for a signal that the end can't take and for no room
 abbrev pub judged : Call → Command → Verdict
 judged c k =
-    fit (decide k (stateOf (actor k) c) (waiting (actor k) c) (queueTo (other (actor k)) c .count))
+    fit (decide k (endOf (actor k) c) (waiting (actor k) c) (queueTo (other (actor k)) c .count))
     (queueTo (other (actor k)) c .count + length (sends k (waiting (actor k) c)))
 
 -- before those, for every command, 17 where either queue's count is above 16
@@ -173,17 +169,27 @@ hands (Hang-up e) w = Accepted
 hands (Deliver e) [] = Accepted
 hands (Deliver e) (x ∷ w) = Delivered x
 
+-- A signal that is sent, or taken, passes the channel of its tunnel at the acting end.
+abbrev pub channelsBy : Command → List Signal → List ℕ → List ℕ
+channelsBy Accept w cs = cs
+channelsBy Busy w cs = cs
+channelsBy Unobtainable w cs = cs
+channelsBy (Send s tunnel x) w cs = passed s true (Ordinary tunnel x) cs
+channelsBy (Hang-up s) w cs = cs
+channelsBy (Deliver s) [] cs = cs
+channelsBy (Deliver s) (x ∷ w) cs = passed s false x cs
+
 -- A refusal leaves the record as it was.
 abbrev pub refusing : Call → Refusal → Step
 refusing c r = record { answer = Refused r; call = c }
 
 abbrev pub outcome : Call → Command → Verdict → Step
 outcome c k (refuse r) = refusing c r
-outcome c k (become e) =
+outcome c k (become s) =
     record {
       answer = hands k (waiting (actor k) c);
       call =
-          moved (actor k) e (pops k (queueTo (actor k) c))
+          moved (actor k) (within s (channelsBy k (waiting (actor k) c) (endOf (actor k) c .channels))) (pops k (queueTo (actor k) c))
           (pushes (queueTo (other (actor k)) c) (sends k (waiting (actor k) c))) c;
     }
 
@@ -206,12 +212,16 @@ numberIn (Refused r) = numberOf r
 abbrev pub nextUse : ℕ → ℕ
 nextUse n = (n + 1) % 65536
 
--- A record in which nothing waits.
+-- Every tunnel unused, which is the state 0; there is a place for tunnel 0 too, which has no channel.
+abbrev pub allUnused : List ℕ
+allUnused = replicate 256 0
+
+-- A record in which nothing waits, with every tunnel unused at both ends.
 abbrev pub quiet : State → State → ℕ → Call
 quiet a b n =
     record {
-      caller = record { state = a };
-      callee = record { state = b };
+      caller = within a allUnused;
+      callee = within b allUnused;
       «to_caller» = emptyQueue;
       «to_callee» = emptyQueue;
       «use_number» = n;

@@ -1,5 +1,6 @@
-// The call by value (01 'Calls', manual 8): two ends, two queues, and one step of a record for each command.
+// The call by value (01 'Calls', manual 8; 02 'Ask 2', manual 9): two ends with their channels, two queues, and one step of a record for each command.
 pub use ends::End;
+pub use ends::Side;
 pub use ends::Signal;
 pub use ends::State;
 pub use ends::Status;
@@ -15,7 +16,7 @@ pub struct Slot {
     pub signal: Signal,
 }
 
-// The signals that wait for an end: the first `count` slots, the oldest at slot 0. The slots past them are blank.
+// The signals that wait for an end: the first `count` slots, the oldest at slot 0. In a call that was placed the slots past them are blank.
 pub struct Queue {
     pub slots: [Slot; 16],
     pub count: u8,
@@ -27,11 +28,6 @@ pub struct Call {
     pub to_caller: Queue,
     pub to_callee: Queue,
     pub use_number: u16,
-}
-
-pub enum Side {
-    Caller,
-    Callee,
 }
 
 // The callee's three answers; an ordinary signal from a side, by tunnel and status; teardown from a side; delivery to a side.
@@ -54,17 +50,6 @@ pub enum Answer {
 pub struct Step {
     pub answer: Answer,
     pub call: Call,
-}
-
-impl Side {
-    fn other(self) -> Side
-        ensures { λ r. ⌜ r ≡ spec.other self ⌝ }
-    {
-        match self {
-            Side::Caller => Side::Callee,
-            Side::Callee => Side::Caller,
-        }
-    }
 }
 
 impl Answer {
@@ -158,9 +143,16 @@ impl Call {
         ensures { λ r. ⌜ r ≡ spec.quiet caller callee «use_number» ⌝ }
     {
         let empty = Queue::empty();
+        let unused = [0u8; 256];
         Call {
-            caller: End { state: caller },
-            callee: End { state: callee },
+            caller: End {
+                state: caller,
+                channels: unused,
+            },
+            callee: End {
+                state: callee,
+                channels: unused,
+            },
             to_caller: empty,
             to_callee: empty,
             use_number,
@@ -258,12 +250,13 @@ impl Call {
     {
         match v {
             Verdict::Refuse(r) => self.refused(r),
-            Verdict::Become(end) => {
+            Verdict::Become(state) => {
                 let to = self.queue(s);
                 let from = self.queue(s.other());
                 if 15 < from.count {
                     return self.refused(Refusal::BrokenRecord);
                 }
+                let end = self.end(s).after(state, s, true, x);
                 let call = self.moved(s, end, to, from.push(x));
                 Step {
                     answer: Answer::Accepted,
@@ -279,12 +272,13 @@ impl Call {
     {
         match v {
             Verdict::Refuse(r) => self.refused(r),
-            Verdict::Become(end) => {
+            Verdict::Become(state) => {
                 let to = self.to_callee;
                 let from = self.to_caller;
                 if 13 < from.count {
                     return self.refused(Refusal::BrokenRecord);
                 }
+                let end = self.callee.within(state);
                 let one = from.push(Signal::Upack);
                 let two = one.push(Signal::Ordinary(0, status));
                 let three = two.push(Signal::Teardown);
@@ -322,7 +316,7 @@ impl Call {
         ensures { λ r. ⌜ r ≡ spec.acted self (Command.Send s tunnel status) ⌝ }
     {
         let from = self.queue(s.other());
-        let v = self.end(s).speak(tunnel, status, from.count);
+        let v = self.end(s).speak(s, tunnel, status, from.count);
         self.one_sent(s, v, Signal::Ordinary(tunnel, status))
     }
 
@@ -383,10 +377,10 @@ impl Call {
             return self.refused(Refusal::NothingWaiting);
         }
         let x = to.head();
-        let v = self.end(s).take(x);
+        let v = self.end(s).take(s, x);
         match v {
             Verdict::Refuse(r) => self.refused(r),
-            Verdict::Become(end) => self.replied(s, end, x),
+            Verdict::Become(state) => self.replied(s, self.end(s).after(state, s, false, x), x),
         }
     }
 

@@ -60,6 +60,12 @@ fn status_of(name: usize, code: u8) -> Status {
         names::UNAVAIL => Status::Unavail,
         names::NONE => Status::None,
         names::DTMF => Status::Dtmf(code),
+        names::OPEN => Status::Open,
+        names::OACK => Status::Oack,
+        names::ONACK => Status::Onack,
+        names::READY => Status::Ready,
+        names::CLOSE => Status::Close,
+        names::CLOSEACK => Status::Closeack,
         _ => Status::Special(code),
     }
 }
@@ -92,7 +98,7 @@ pub fn command_of(w: Words) -> Command {
     }
 }
 
-// ---- a record: `caller STATE callee STATE use N, to caller N SIGNAL, to callee N SIGNAL`
+// ---- a record: `caller STATE callee STATE use N, channels N N, to caller N SIGNAL, to callee N SIGNAL`
 
 // The place after `to` and a side; 200 where they are not said.
 fn after_to(w: Words, side: usize) -> usize {
@@ -121,12 +127,24 @@ fn queue_to(w: Words, side: usize) -> Queue {
     }
 }
 
-// The state of an end is the word behind its side, which is said before any queue.
-fn end_of(w: Words, side: usize) -> End {
+// The state of an end is the word behind its side, which is said before any queue. Its channels are all in one state, which is a number; that need not be one of a channel's.
+fn end_of(w: Words, side: usize, channel: u8) -> End {
     let state = console::after(w, names::word(side));
     End {
         state: state_of(names::number(state)),
+        channels: [channel; 256],
     }
+}
+
+// Behind `channels` the caller's number stands, and then the callee's. Every channel is unused where none are said.
+fn caller_channel(w: Words) -> u8 {
+    let at = names::place_of(w, names::CHANNELS);
+    byte(console::word(w, at % 200 + 1))
+}
+
+fn callee_channel(w: Words) -> u8 {
+    let at = names::place_of(w, names::CHANNELS);
+    byte(console::word(w, at % 200 + 2))
 }
 
 pub fn use_of(w: Words) -> u16 {
@@ -135,8 +153,8 @@ pub fn use_of(w: Words) -> u16 {
 
 pub fn record_of(w: Words) -> Call {
     Call {
-        caller: end_of(w, names::CALLER),
-        callee: end_of(w, names::CALLEE),
+        caller: end_of(w, names::CALLER, caller_channel(w)),
+        callee: end_of(w, names::CALLEE, callee_channel(w)),
         to_caller: queue_to(w, names::CALLER),
         to_callee: queue_to(w, names::CALLEE),
         use_number: use_of(w),
@@ -216,7 +234,7 @@ pub fn is_command(w: Words) -> bool {
     match first {
         names::SEND => {
             let what = names::at(w, 2);
-            sided && names::UNKNOWN <= what && what <= names::SPECIAL
+            sided && names::UNKNOWN <= what && what <= names::CLOSEACK
         }
         names::TEARDOWN | names::DELIVER => sided,
         names::ACCEPT..=names::SHOW => true,

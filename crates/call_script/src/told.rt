@@ -43,6 +43,12 @@ fn status(w: Words, x: Status) -> Words {
         Status::None => put(w, names::NONE),
         Status::Dtmf(n) => put_number(w, names::DTMF, n as u64),
         Status::Special(n) => put_number(w, names::SPECIAL, n as u64),
+        Status::Open => put(w, names::OPEN),
+        Status::Oack => put(w, names::OACK),
+        Status::Onack => put(w, names::ONACK),
+        Status::Ready => put(w, names::READY),
+        Status::Close => put(w, names::CLOSE),
+        Status::Closeack => put(w, names::CLOSEACK),
     }
 }
 
@@ -179,6 +185,21 @@ pub fn record(c: Call) -> Words {
         queue(w, names::CALLER, c.to_caller),
         names::CALLEE,
         c.to_callee,
+    )
+}
+
+fn channel(e: End, tunnel: u8) -> u64 {
+    let channels = e.channels;
+    channels[tunnel as usize] as u64
+}
+
+// The states of a tunnel's channels, the caller's and the callee's.
+pub fn channels(w: Words, c: Call, tunnel: u8) -> Words {
+    let caller = c.caller;
+    let callee = c.callee;
+    console::with(
+        put_number(w, names::CHANNELS, channel(caller, tunnel)),
+        channel(callee, tunnel),
     )
 }
 

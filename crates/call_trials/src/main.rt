@@ -24,8 +24,8 @@ ghost use Rattle.io.specs.Counts.{Counts};
 
 // A port and a row in bytes, and how many of its four records the row has. The structs are read from them, and what becomes of the structs has to be what becomes of the bytes.
 struct Scene {
-    port: [u8; 102],
-    row: [u8; 408],
+    port: [u8; 614],
+    row: [u8; 2456],
     count: usize,
 }
 
@@ -38,8 +38,8 @@ struct Came {
 // A record's bytes, put into a row where it has the place.
 fn put_record(row: &mut [u8], r: usize, c: Call) {
     let bytes = records::bytes_of(c);
-    let at = r % 1025 * 102;
-    for j in 0usize..102usize {
+    let at = r % 1025 * 614;
+    for j in 0usize..614usize {
         if row.len() <= at + j {
             return;
         }
@@ -93,7 +93,7 @@ fn with_port(s: Scene, w: Words) -> Scene {
     let bytes = if 1 < w.count {
         records::bytes_of(asked::record_of(w))
     } else {
-        [0u8; 102]
+        [0u8; 614]
     };
     let mut r = s;
     r.port = bytes;
@@ -119,15 +119,15 @@ fn scened(s: Scene, w: Words) -> Scene {
     }
 }
 
-fn record_in(bytes: [u8; 102]) -> Call {
+fn record_in(bytes: [u8; 614]) -> Call {
     records::read(bytes)
 }
 
-fn record_at(row: [u8; 408], r: usize) -> Call {
+fn record_at(row: [u8; 2456], r: usize) -> Call {
     records::read_at(&row, r)
 }
 
-fn calls_in(row: [u8; 408]) -> [Call; 4] {
+fn calls_in(row: [u8; 2456]) -> [Call; 4] {
     [
         record_at(row, 0),
         record_at(row, 1),
@@ -257,12 +257,12 @@ fn mixed(d: u64, b: u8) -> u64 {
     d % 1_000_003 * 31 + b as u64 + 1
 }
 
-// A check sum of all bytes but the 102 from a place on.
+// A check sum of all bytes but the 614 from a place on.
 fn digest(row: &[u8], at: usize) -> u64 {
     let mut d: u64 = 0;
     let mut i: usize = 0;
     while i < row.len() {
-        if i < at || 102 <= i - at {
+        if i < at || 614 <= i - at {
             d = mixed(d, row[i]);
         }
         i += 1;
@@ -287,7 +287,7 @@ fn named_in(w: Words) -> Named {
 
 // A refusal changes no byte, and nothing changes a byte of another record.
 fn bytes_commanded(row: &mut [u8], n: Named) -> Words {
-    let at = n.record % 1025 * 102;
+    let at = n.record % 1025 * 614;
     let k = n.command;
     let others = digest(row, at);
     let before = records::read_at(row, n.record);
@@ -302,7 +302,7 @@ fn bytes_placed(row: &mut [u8], w: Words) -> Words {
     let mut source = [told::UNWRITTEN; 32];
     let mut target = [told::UNWRITTEN; 32];
     let room = room_for(w, &source);
-    let at = rowbytes::lowest_free(row) % 1025 * 102;
+    let at = rowbytes::lowest_free(row) % 1025 * 614;
     let others = digest(row, at);
     let z = rowbytes::place(
         soundness::sound(plan),
@@ -329,7 +329,7 @@ fn bytes_asked(row: &mut [u8], w: Words) -> Words {
 
 fn row_asked(s: Scene, w: Words) -> Came {
     let mut row = s.row;
-    let end = console::within(s.count % 5 * 102, &row);
+    let end = console::within(s.count % 5 * 614, &row);
     let words = bytes_asked(&mut row[..end], w);
     let mut scene = s;
     scene.row = row;
@@ -501,10 +501,14 @@ fn long_case(row: &mut [u8], set: Words, w: Words) -> Words {
     told::unless(words, changed, names::CHANGED)
 }
 
-fn long_row(set: Words, w: Words) -> Words {
-    let mut row = [0u8; 104550];
-    let end = console::within(asked::number_at(set, 1) % 1026 * 102, &row);
+fn long_part(row: &mut [u8], set: Words, w: Words) -> Words {
+    let end = console::within(asked::number_at(set, 1) % 1026 * 614, row);
     long_case(&mut row[..end], set, w)
+}
+
+fn long_row(set: Words, w: Words) -> Words {
+    let mut row = [0u8; 629350];
+    long_part(&mut row, set, w)
 }
 
 // ---- a line
@@ -576,8 +580,8 @@ fn main() {
     let mut s = State {
         tally: console::no_tally(),
         scene: Scene {
-            port: [0u8; 102],
-            row: [0u8; 408],
+            port: [0u8; 614],
+            row: [0u8; 2456],
             count: 0,
         },
     };

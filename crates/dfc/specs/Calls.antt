@@ -10,8 +10,8 @@ use Rattle.planread.specs.Reading.{readOf}
 use Rattle.setupbytes.specs.Codec.{setupIn}
 use Rattle.routing.specs.Routing.{sourceList, targetList}
 use Rattle.call.specs.declared.Call.{Call}
-use Rattle.call.specs.declared.Side.{Side}
-use Rattle.call.specs.declared.Side.the-variants.{Caller, Callee}
+use Rattle.ends.specs.declared.Side.{Side}
+use Rattle.ends.specs.declared.Side.the-variants.{Caller, Callee}
 use Rattle.call.specs.declared.Command.{Command}
 use Rattle.call.specs.declared.Command.the-variants.{Accept, Busy, Unobtainable, Send, Teardown, Deliver}
 use Rattle.call.specs.declared.Answer.{Answer}

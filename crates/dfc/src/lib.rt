@@ -396,6 +396,7 @@ ghost use Rattle.call.specs.Row.{turn, command as by-command};
 ghost use Rattle.recordbytes.specs.Records.{callAt};
 ghost use Rattle.recordbytes.specs.Steps.{stepAt};
 ghost use Rattle.rowbytes.specs.Rows.{rowIn, clearedIn, commandedIn};
+ghost use Rattle.rowbytes.specs.Parts.{foundIn, commandedBy};
 ghost use Rattle.dfc.specs.Calls.{sideOf, commandOf, commandedSaid, replySaid, placedAs, placed, rowPlaced, portPlaced, sourcePlaced, targetPlaced, roomPlaced};
 use call::Command;
 use call::Side;
@@ -493,6 +494,26 @@ pub extern "C" fn dfc_clear(row: &mut [u8])
     rowbytes::clear(row);
 }
 
+// A command for a record of a row, or for a port's record, by numbers.
+fn by_numbers(
+    named: bool,
+    row: &mut [u8],
+    record_number: usize,
+    use_number: u16,
+    kind: u8,
+    side: u8,
+    signal: u8,
+    tunnel: u8,
+    code: u8,
+) -> Commanded
+    ensures { λ r. ⌜ (r ≡ commandedSaid (commandedBy (foundIn named (now (row .entry)) «record_number» «use_number») (now (row .entry)) (commandOf kind side signal tunnel code) .answer))
+        × (now (row .exit) ≡ commandedBy (foundIn named (now (row .entry)) «record_number» «use_number») (now (row .entry)) (commandOf kind side signal tunnel code) .bytes) ⌝ }
+{
+    let k = command_of(kind, side, signal, tunnel, code);
+    let a = rowbytes::command_for(named, row, record_number, use_number, k);
+    commanded_said(a)
+}
+
 // A command for a record of a row, by its number and the use number that placing gave.
 #[no_mangle]
 pub extern "C" fn dfc_command(
@@ -508,15 +529,23 @@ pub extern "C" fn dfc_command(
     ensures { λ r. ⌜ (r ≡ replySaid (turn (rowIn (now (row .entry))) (by-command «record_number» «use_number» (commandOf kind side signal tunnel code)) .reply))
         × (now (row .exit) ≡ commandedIn (now (row .entry)) «record_number» «use_number» (commandOf kind side signal tunnel code)) ⌝ }
 {
-    let k = command_of(kind, side, signal, tunnel, code);
-    let a = rowbytes::command(row, record_number, use_number, k);
-    commanded_said(a)
+    by_numbers(
+        true,
+        row,
+        record_number,
+        use_number,
+        kind,
+        side,
+        signal,
+        tunnel,
+        code,
+    )
 }
 
 // A command for a port's record.
 #[no_mangle]
 pub extern "C" fn dfc_port_command(
-    port: &mut [u8; 102],
+    port: &mut [u8; 614],
     kind: u8,
     side: u8,
     signal: u8,
@@ -526,9 +555,7 @@ pub extern "C" fn dfc_port_command(
     ensures { λ r. ⌜ (r ≡ commandedSaid (step (callAt (now (port .entry)) 0) (commandOf kind side signal tunnel code) .answer))
         × (now (port .exit) ≡ stepAt (now (port .entry)) 0 (commandOf kind side signal tunnel code) .bytes) ⌝ }
 {
-    let k = command_of(kind, side, signal, tunnel, code);
-    let a = rowbytes::port_command(port, k);
-    commanded_said(a)
+    by_numbers(false, port, 0, 0, kind, side, signal, tunnel, code)
 }
 
 fn wide_size(n: usize) -> u64
@@ -590,7 +617,7 @@ pub extern "C" fn dfc_place(
 pub extern "C" fn dfc_port_place(
     file: &[u8],
     setup: &[u8],
-    port: &mut [u8; 102],
+    port: &mut [u8; 614],
     source_list: &mut [u8],
     target_list: &mut [u8],
     room: &mut [u8; 110],

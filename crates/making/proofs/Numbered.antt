@@ -12,7 +12,7 @@ use Rattle.typeset.specs.Sets.{has}
 use Rattle.typeset.proofs.Bools.{yes-or-no, clash, and-left, and-right, not-true}
 use Rattle.refusal.specs.Numbers.{numberOf, placeOf}
 use Rattle.refusal.specs.declared.Refusal.{Refusal}
-use Rattle.refusal.specs.declared.Refusal.the-variants.{NoSuchType, NotForThisBox, WrongAddress, NotReversible, Malformed, NotRoutedHere, BadString, OwnAddress, AddressTooLarge, NoSuchCall, NoFreeRecord, StateForbids, TooManyWaiting, NothingWaiting, NotOrdinary, RowTooLong, BrokenRecord, ListTooShort, WrongEnd, WrongTag, WrongLength, RuleBroken, TooManySubscribers, RoomTooShort}
+use Rattle.refusal.specs.declared.Refusal.the-variants.{NoSuchType, NotForThisBox, WrongAddress, NotReversible, Malformed, NotRoutedHere, BadString, OwnAddress, AddressTooLarge, NoSuchCall, NoFreeRecord, StateForbids, TooManyWaiting, NothingWaiting, NotOrdinary, RowTooLong, BrokenRecord, ListTooShort, WrongEnd, WrongTag, WrongLength, RuleBroken, TooManySubscribers, RoomTooShort, TunnelTaken, ChannelForbids}
 use Rattle.refusal.specs.declared.Place.{Place}
 use Rattle.refusal.specs.declared.Place.the-variants.{Nowhere, At}
 use Rattle.plan.specs.declared.Region.{Region}
@@ -195,6 +195,8 @@ refusal-number (WrongLength at) = refl
 refusal-number (RuleBroken at) = refl
 refusal-number (TooManySubscribers at) = refl
 refusal-number (RoomTooShort at) = refl
+refusal-number TunnelTaken = refl
+refusal-number ChannelForbids = refl
 
 -- a number says whether a setup was made: it is 0 then, and for no refusal
 made-zero : (o : Outcome) → eqb (numberOfOutcome o) 0 ≡ true → o ≡ Made

@@ -27,11 +27,12 @@ use Rattle.call.specs.declared.Command.{Command}
 use Rattle.call.specs.Protocol.{isFree, step, numberIn, placed, cleared, nextUse}
 use Rattle.call.specs.Row.{Act, place, command, Turn, recordAt, lowestFree, named, refuses, placeAt, put, turn, turns, Event, placing as new-call, doing, lives, own}
 use Rattle.teardown.specs.Teardown.{PlacedLowest}
-use Rattle.teardown.proofs.Row.{turns-length, lives-append, byItsOwn, placing-law, lives-commands, lived-not-17, turn-not-17, demand3InRow, usesComeRound}
+use Rattle.teardown.proofs.Row.{turns-length, lives-append, byItsOwn, placing-law, lives-commands, lived-not-17, lived-fit, turn-not-17, demand3InRow, usesComeRound}
+use Rattle.teardown.proofs.Media.{noneTwice}
 use Rattle.teardown.proofs.Theorem.{noDeadlock, inOrder, demand3 as demand3-of-record}
 use Rattle.placing.specs.declared.Placed.{Placed}
 use Rattle.placing.specs.Rows.{laterFor, outcomeIn, answerIn, turned, answered, placedIn, rowAfter}
-use Rattle.placing.specs.Operations.{Operation, placing, commanding, rowOf, numberFor, PortOperation, placing-there, commanding-it, portOf, portNumber, Use, operating, lending, clearing, used, PortUse, operating-it, clearing-it, portUsed, Never17, PortNever17, actBy, actOf, actsOf, AsActs, Demand3, eventBy, eventOf, eventsOf, AsEvents, NoneInUse, CallsInPort, PortReached, PortNoDeadlock, PortInOrder, PortDemand3, PlacesLowest, Placing, OldNames}
+use Rattle.placing.specs.Operations.{Operation, placing, commanding, rowOf, numberFor, PortOperation, placing-there, commanding-it, portOf, portNumber, Use, operating, lending, clearing, used, PortUse, operating-it, clearing-it, portUsed, Never17, PortNever17, HeadsFit, NeverUnfit, PortNoneTwice, actBy, actOf, actsOf, AsActs, Demand3, eventBy, eventOf, eventsOf, AsEvents, NoneInUse, CallsInPort, PortReached, PortNoDeadlock, PortInOrder, PortDemand3, PlacesLowest, Placing, OldNames}
 use Rattle.placing.proofs.Settles.{routing-to, refusing-by, came-by, places, port-places}
 
 -- ---- what an operation does is what its acts do
@@ -163,6 +164,16 @@ never17 = record {
   in-record = λ n before r x. port-number (recordAt (used (replicate n cleared) before) r) (at-led (used (replicate n cleared) before) (used-led (replicate n cleared) (cleared-led n) before) r) x;
 }
 
+-- no channel signal is unfit
+led-fit : (c : Call) → Led c → HeadsFit c
+led-fit c (xs, e) = subst HeadsFit (sym e) (lived-fit xs)
+
+pub never-unfit : NeverUnfit
+never-unfit = record {
+  in-row = λ n before r. led-fit (recordAt (used (replicate n cleared) before) r) (at-led (used (replicate n cleared) before) (used-led (replicate n cleared) (cleared-led n) before) r);
+  in-port = λ before. led-fit (portUsed cleared before) (port-used-led cleared ([], refl) before);
+}
+
 pub port-never17 : PortNever17
 port-never17 before x = port-number (portUsed cleared before) (port-used-led cleared ([], refl) before) x
 
@@ -246,6 +257,9 @@ calls-in-port c p s n m x ks free routed = rw (held-true (isFree c) free, routed
 
 pub port-reached : PortReached
 port-reached c xs ks h = as-events c xs ∙ ap (lives c) h ∙ lives-commands (placed c) ks
+
+pub port-none-twice : PortNoneTwice
+port-none-twice c xs ks h t = noneTwice c ks t
 
 pub port-no-deadlock : PortNoDeadlock
 port-no-deadlock c xs ks h busy =

@@ -4,7 +4,7 @@ use mathlib.Core.Path.{_≡_}
 use mathlib.Core.Logic.{_≢_}
 use mathlib.Core.List.{List, [], _∷_, _++_, map}
 use lib.Dec.{T}
-use mathlib.Core.Bool.{not}
+use mathlib.Core.Bool.{true, false, not}
 use lib.ListN.{length, set, replicate}
 use Rattle.refusal.specs.declared.Refusal.the-variants.{NoSuchCall}
 use Rattle.plan.specs.declared.Plan.{Plan}
@@ -17,9 +17,14 @@ use Rattle.routing.specs.Routing.{outcome, answer, numberOfOutcome}
 use Rattle.call.specs.declared.Call.{Call}
 use Rattle.call.specs.declared.Command.{Command}
 use Rattle.call.specs.Row.{Act, place, command, recordAt, refuses, put, turn, turns, numberOfReply, Event, placing as new-call, doing, lives, own, placings}
-use Rattle.call.specs.declared.Side.{Side}
-use Rattle.call.specs.Protocol.{actor, other, waiting, isFree, step, numberIn, cleared, placed, nextUse}
-use Rattle.call.specs.History.{allows, after, sent, received}
+use Rattle.ends.specs.declared.Side.{Side}
+use Rattle.ends.specs.declared.Status.{Status}
+use Rattle.ends.specs.declared.Signal.{Signal}
+use Rattle.ends.specs.declared.Signal.the-variants.{Ordinary}
+use Rattle.ends.specs.Ends.{fits}
+use Rattle.call.specs.Protocol.{actor, other, endOf, waiting, isFree, step, numberIn, cleared, placed, nextUse}
+use Rattle.call.specs.History.{allows, after, sent, received, sentOf}
+use Rattle.teardown.specs.Media.{openIn}
 use Rattle.teardown.specs.Teardown.{FirstTeardown, Closes, OfFour, PlacedLowest, FirstTeardownIn, ClosesIn}
 use Rattle.placing.specs.Rows.{outcomeIn, placedIn, rowAfter}
 
@@ -85,6 +90,15 @@ pub record Never17 : Type 0 where
 abbrev pub PortNever17 : Type 0
 PortNever17 = (before : List PortUse) (x : PortOperation) → portNumber (portUsed cleared before) x ≢ 17
 
+-- IN A ROW THAT BEGAN CLEARED NO CHANNEL SIGNAL IS UNFIT, whatever was done before: what waits first for an end of a call is fit for the channel of its tunnel there. Nor is one in a port.
+abbrev pub HeadsFit : Call → Type 0
+HeadsFit c =
+    T (not (isFree c)) → (s : Side) (t : ℕ) (x : Status) (w : List Signal) → waiting s c ≡ Ordinary t x ∷ w → fits s false t x (endOf s c .channels) ≡ true
+
+pub record NeverUnfit : Type 0 where
+  pub in-row : (n : ℕ) (before : List Use) (r : ℕ) → HeadsFit (recordAt (used (replicate n cleared) before) r)
+  pub in-port : (before : List PortUse) → HeadsFit (portUsed cleared before)
+
 -- THE CALL'S THEOREMS HOLD OF THESE OPERATIONS: what they do to a row is what the acts do that the call's own theorems speak of. A placing that is refused is no act.
 abbrev pub actBy : Outcome → List Act
 actBy (Routed c) = place ∷ []
@@ -137,7 +151,7 @@ AsEvents = (c : Call) (xs : List PortOperation) → portsOf c xs ≡ lives c (ev
 abbrev pub NoneInUse : Type 0
 NoneInUse = (c : Call) (p : Plan) (s : Setup) (n m : ℕ) → T (not (isFree c)) → (eventOf c (placing-there p s n m) ≡ []) × (portOf c (placing-there p s n m) ≡ c)
 
--- A CALL IN A PORT, whatever the port held before: of its operations a placing is accepted, then come the commands ks, and no other placing is accepted. Placings that are refused may stand anywhere.
+-- A CALL IN A PORT, whatever the port held before: of its operations a placing is accepted, then come the commands ks, and no other placing is accepted; no command stands before it. Placings that are refused may stand anywhere.
 abbrev pub CallInPort : Call → List PortOperation → List Command → Type 0
 CallInPort c xs ks = eventsOf c xs ≡ new-call ∷ map doing ks
 
@@ -169,6 +183,10 @@ PortDemand3 =
     (c : Call) (xs : List PortOperation) (before : List Command) (k : Command) (later : List Command)
     → CallInPort c xs (before ++ k ∷ later) → FirstTeardown c before k
     → Closes (placed c) (after (placed c) (before ++ k ∷ [])) (portsOf c xs) (actor k) (before ++ k ∷ later) later
+
+-- NO TUNNEL IS OPENED TWICE in a call in a port.
+abbrev pub PortNoneTwice : Type 0
+PortNoneTwice = (c : Call) (xs : List PortOperation) (ks : List Command) → CallInPort c xs ks → (t : ℕ) → sentOf (openIn t) (placed c) ks ≤ 1
 
 -- PLACING takes the lowest free record, answers with it and its use number, one more than before (65,535 followed by 0), and with exactly what routing alone gives; every other record is as it was.
 pub record PlacesLowest (row : List Call) (p : Plan) (s : Setup) (n m : ℕ) : Type 0 where

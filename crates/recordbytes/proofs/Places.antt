@@ -13,7 +13,7 @@ use Rattle.ends.specs.declared.Signal.{Signal}
 use Rattle.call.specs.declared.Slot.{Slot}
 use Rattle.call.specs.Protocol as protocol
 use Rattle.call.specs.Protocol.{slot, blank, push, pop}
-use Rattle.recordbytes.specs.Records.{slotAt, slotsFrom, queueAt}
+use Rattle.recordbytes.specs.Records.{slotAt, slotsFrom, queueAt, bytesFrom}
 use Rattle.recordbytes.specs.Steps.{signalBytes, pushedAt, poppedAt}
 
 -- ---- bytes before, past and within some stores
@@ -157,6 +157,34 @@ slots-put (suc m) b d at (suc n) x h lower upper e =
         let none : at + 0 ≡ at = omega arith in
         let e0 : getD d at 0 ≡ getD b at 0 = ap (λ (k : ℕ). getD d k 0) (sym none) ∙ lower 0 (omega arith) ∙ ap (λ (k : ℕ). getD b k 0) none in
         rw (e0, lower 1 (omega arith), lower 2 (omega arith)) refl
+
+-- ---- bytes as they stand
+
+pub bytes-length : (n : ℕ) (b : List ℕ) (at : ℕ) → length (bytesFrom n b at) ≡ n
+unfolding bytesFrom
+bytes-length zero b at = refl
+bytes-length (suc n) b at = ap suc (bytes-length n b (at + 1))
+
+pub bytes-at : (n : ℕ) (b : List ℕ) (at i d : ℕ) → i < n → getD (bytesFrom n b at) i d ≡ getD b (at + i) 0
+unfolding bytesFrom
+bytes-at zero b at i d h = absurd (not-suc-le-zero h)
+bytes-at (suc n) b at zero d h = let e : at + 0 ≡ at = omega arith in rw e refl
+bytes-at (suc n) b at (suc i) d h = let e : at + suc i ≡ at + 1 + i = omega arith in rw e (bytes-at n b (at + 1) i d (le-of-suc-le-suc h))
+
+pub bytes-same : (n : ℕ) (b d : List ℕ) (at to : ℕ) → ((j : ℕ) → j < n → getD b (at + j) 0 ≡ getD d (to + j) 0) → bytesFrom n b at ≡ bytesFrom n d to
+unfolding bytesFrom
+bytes-same zero b d at to h = refl
+bytes-same (suc n) b d at to h =
+    let a0 : at + 0 ≡ at = omega arith in
+    let t0 : to + 0 ≡ to = omega arith in
+    let e0 : getD b at 0 ≡ getD d to 0 = ap (λ (k : ℕ). getD b k 0) (sym a0) ∙ h 0 (omega arith) ∙ ap (λ (k : ℕ). getD d k 0) t0 in
+    ap₂ _∷_ e0 (bytes-same n b d (at + 1) (to + 1) (λ j l. later j (omega (arith, l))))
+  where
+    later : (j : ℕ) → 1 + j < suc n → getD b (at + 1 + j) 0 ≡ getD d (to + 1 + j) 0
+    later j l =
+        let p : at + 1 + j ≡ at + (1 + j) = omega arith in
+        let q : to + 1 + j ≡ to + (1 + j) = omega arith in
+        rw (p, q) (h (1 + j) l)
 
 -- ---- a signal put in, and the head taken out: the queue, and all bytes outside of it
 

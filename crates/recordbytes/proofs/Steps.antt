@@ -4,14 +4,16 @@ use mathlib.Core.Bool.{Bool, true, false, cond}
 use mathlib.Core.List.{List, [], _∷_}
 use Prim.Native.Nat.{ℕ, _+_, _*_, _-_, _≤_, _<_}
 use native.Mathlib.Omega.{arith}
-use lib.Dec.{leb}
+use lib.Dec.{leb, eqb}
+use mathlib.Core.Logic.{_≢_}
 use lib.ListN.{length, getD, length-set}
 use lib.Seq.{getD-set-other}
 use borrow.Author.Tests.{le-leb, lt-leb}
 use Rattle.refusal.specs.declared.Refusal.{Refusal}
 use Rattle.refusal.specs.declared.Refusal.the-variants.{NoSuchCall, NothingWaiting, BrokenRecord}
+use Rattle.ends.specs.declared.State.{State}
 use Rattle.ends.specs.declared.State.the-variants.{Linked, Unlinking}
-use Rattle.ends.specs.declared.End.{End}
+use Rattle.ends.specs.Ends.{channelAt, channelFor, speaksWith, takesWith}
 use Rattle.ends.specs.declared.Status.{Status}
 use Rattle.ends.specs.declared.Status.the-variants.{Unknown, Unavail}
 use Rattle.ends.specs.declared.Signal.{Signal}
@@ -20,25 +22,33 @@ use Rattle.ends.specs.declared.Verdict.{Verdict}
 use Rattle.ends.specs.declared.Verdict.the-variants.{Refuse as refuse, Become as become}
 use Rattle.signalbytes.specs.Numbers.{stateSaid, stateNumber, signalSaid}
 use Rattle.call.specs.declared.Call.{Call}
-use Rattle.call.specs.declared.Side.{Side}
-use Rattle.call.specs.declared.Side.the-variants.{Caller, Callee}
+use Rattle.ends.specs.declared.Side.{Side}
+use Rattle.ends.specs.declared.Side.the-variants.{Caller, Callee}
 use Rattle.call.specs.declared.Command.{Command}
 use Rattle.call.specs.declared.Command.the-variants.{Accept, Busy, Unobtainable, Send, Teardown as Hang-up, Deliver}
 use Rattle.call.specs.declared.Answer.{Answer}
 use Rattle.call.specs.declared.Answer.the-variants.{Accepted, Delivered, Refused}
 use Rattle.call.specs.Protocol.{other, endOf, stateOf, queueTo, slot, waiting, answers, speaks, tears, takes, fit}
 use Rattle.call.proofs.Steps.{waiting-some}
-use Rattle.recordbytes.specs.Records.{statePlace, queuePlace, slotsFrom, callAt}
-use Rattle.recordbytes.specs.Steps.{Stepped, refusingAt, settledAt, pushedAt, poppedAt, outcomeAt, stepAt, commandAt}
+use Rattle.recordbytes.specs.Records.{statePlace, queuePlace, channelPlace, slotsFrom, bytesFrom, callAt}
+use Rattle.recordbytes.specs.Steps.{Stepped, refusingAt, settledAt, touchedAt, passedAt, pushedAt, poppedAt, outcomeAt, stepAt, commandAt}
 use Rattle.recordbytes.specs.Parts.{actedAt, oneSentAt, threeSentAt, givenAt, repliedAt}
-use Rattle.recordbytes.proofs.Places.{pushed-count, popped-before, popped-past}
+use Rattle.recordbytes.proofs.Places.{bytes-at, pushed-count, popped-before, popped-past}
 
 -- ---- the parts of a record, by their bytes
 
-pub end-from : (s : Side) (b : List ℕ) (at : ℕ) {x : End} → x .state ≡ stateSaid (getD b (at + statePlace s) 0) → x ≡ endOf s (callAt b at)
+pub state-from : (s : Side) (b : List ℕ) (at : ℕ) → stateSaid (getD b (at + statePlace s) 0) ≡ stateOf s (callAt b at)
 unfolding callAt
-end-from Caller b at e = ap (λ z. record { state = z }) e
-end-from Callee b at e = ap (λ z. record { state = z }) e
+state-from Caller b at = refl
+state-from Callee b at = refl
+
+pub channels-from : (s : Side) (b : List ℕ) (at : ℕ) → bytesFrom 256 b (at + channelPlace s) ≡ endOf s (callAt b at) .channels
+unfolding callAt
+channels-from Caller b at = refl
+channels-from Callee b at = refl
+
+pub channel-from : (s : Side) (b : List ℕ) (at t : ℕ) → t < 256 → getD b (at + channelPlace s + t) 0 ≡ channelAt t (endOf s (callAt b at) .channels)
+channel-from s b at t h = sym (bytes-at 256 b (at + channelPlace s) t 9 h) ∙ ap (channelAt t) (channels-from s b at)
 
 pub count-from : (s : Side) (b : List ℕ) (at : ℕ) → getD b (at + queuePlace s) 0 ≡ queueTo s (callAt b at) .count
 unfolding callAt
@@ -60,24 +70,60 @@ head-from Callee b at =
 -- ---- counts that a change leaves
 
 -- a state is no count
-settled-count : (b : List ℕ) (at : ℕ) (s t : Side) (e : End) → getD (settledAt b at s e) (at + queuePlace t) 0 ≡ getD b (at + queuePlace t) 0
-settled-count b at Caller Caller e = getD-set-other b (at + 0) (at + 4) _ 0 (λ h. absurd (omega (arith, h)))
-settled-count b at Caller Callee e = getD-set-other b (at + 0) (at + 53) _ 0 (λ h. absurd (omega (arith, h)))
-settled-count b at Callee Caller e = getD-set-other b (at + 1) (at + 4) _ 0 (λ h. absurd (omega (arith, h)))
-settled-count b at Callee Callee e = getD-set-other b (at + 1) (at + 53) _ 0 (λ h. absurd (omega (arith, h)))
+settled-count : (b : List ℕ) (at : ℕ) (s t : Side) (st : State) → getD (settledAt b at s st) (at + queuePlace t) 0 ≡ getD b (at + queuePlace t) 0
+settled-count b at Caller Caller st = getD-set-other b (at + 0) (at + 4) _ 0 (λ h. absurd (omega (arith, h)))
+settled-count b at Caller Callee st = getD-set-other b (at + 0) (at + 53) _ 0 (λ h. absurd (omega (arith, h)))
+settled-count b at Callee Caller st = getD-set-other b (at + 1) (at + 4) _ 0 (λ h. absurd (omega (arith, h)))
+settled-count b at Callee Callee st = getD-set-other b (at + 1) (at + 53) _ 0 (λ h. absurd (omega (arith, h)))
 
-pub settled-kept : (b : List ℕ) (at : ℕ) (s t : Side) (e : End) {w : List ℕ} {q : ℕ} → w ≡ settledAt b at s e → q ≡ queuePlace t → getD w (at + q) 0 ≡ getD b (at + q) 0
-settled-kept b at s t e ew eq = rw (ew, eq) (settled-count b at s t e)
+passed-count : (b : List ℕ) (at : ℕ) (s t : Side) (sends : Bool) (x : Signal) → getD (passedAt b at s sends x) (at + queuePlace t) 0 ≡ getD b (at + queuePlace t) 0
+passed-count b at s t sends Upack = refl
+passed-count b at s t sends Teardown = refl
+passed-count b at s t sends Downack = refl
+passed-count b at s t sends (Ordinary tunnel x) = by (eqb tunnel 0)
+  where
+    elsewhere : (s t : Side) → at + queuePlace t ≢ at + channelPlace s + tunnel
+    elsewhere Caller Caller h = omega (arith, h)
+    elsewhere Caller Callee h = omega (arith, h)
+    elsewhere Callee Caller h = omega (arith, h)
+    elsewhere Callee Callee h = omega (arith, h)
+
+    by : (z : Bool) → getD (cond z b (touchedAt b at s sends tunnel x)) (at + queuePlace t) 0 ≡ getD b (at + queuePlace t) 0
+    by true = refl
+    by false = getD-set-other b (at + channelPlace s + tunnel) (at + queuePlace t) _ 0 (elsewhere s t)
+
+pub passed-length : (b : List ℕ) (at : ℕ) (s : Side) (sends : Bool) (x : Signal) → length (passedAt b at s sends x) ≡ length b
+passed-length b at s sends Upack = refl
+passed-length b at s sends Teardown = refl
+passed-length b at s sends Downack = refl
+passed-length b at s sends (Ordinary tunnel x) = by (eqb tunnel 0)
+  where
+    by : (z : Bool) → length (cond z b (touchedAt b at s sends tunnel x)) ≡ length b
+    by true = refl
+    by false = length-set b (at + channelPlace s + tunnel) _
+
+-- the bytes in which a state and a channel went on
+abbrev pub goneOn : List ℕ → ℕ → Side → State → Bool → Signal → List ℕ
+goneOn b at s st sends x = passedAt (settledAt b at s st) at s sends x
+
+pub gone-kept : (b : List ℕ) (at : ℕ) (s t : Side) (st : State) (sends : Bool) (x : Signal) {w v : List ℕ} {q : ℕ} → w ≡ settledAt b at s st → v ≡ passedAt w at s sends x → q ≡ queuePlace t → getD v (at + q) 0 ≡ getD b (at + q) 0
+gone-kept b at s t st sends x ew ev eq = rw (ev, ew, eq) (passed-count (settledAt b at s st) at s t sends x ∙ settled-count b at s t st)
+
+gone-length : (b : List ℕ) (at : ℕ) (s : Side) (st : State) (sends : Bool) (x : Signal) → length (goneOn b at s st sends x) ≡ length b
+gone-length b at s st sends x = passed-length (settledAt b at s st) at s sends x ∙ length-set b (at + statePlace s) _
+
+pub settled-kept : (b : List ℕ) (at : ℕ) (s t : Side) (st : State) {w : List ℕ} {q : ℕ} → w ≡ settledAt b at s st → q ≡ queuePlace t → getD w (at + q) 0 ≡ getD b (at + q) 0
+settled-kept b at s t st ew eq = rw (ew, eq) (settled-count b at s t st)
 
 -- the head of one queue is not in the other
-given-count : (b : List ℕ) (at : ℕ) (s : Side) (e : End) → at + 102 ≤ length b → getD (givenAt b at s e) (at + queuePlace (other s)) 0 ≡ getD b (at + queuePlace (other s)) 0
-given-count b at Caller e room =
-    let same : length (settledAt b at Caller e) ≡ length b = length-set b (at + 0) _ in
-    popped-past (settledAt b at Caller e) (at + 4) (omega (arith, room, same)) (at + 53) (omega arith) ∙ settled-count b at Caller Callee e
-given-count b at Callee e room = popped-before (settledAt b at Callee e) (at + 53) (at + 4) (omega arith) ∙ settled-count b at Callee Caller e
+given-count : (b : List ℕ) (at : ℕ) (s : Side) (st : State) (x : Signal) → at + 614 ≤ length b → getD (givenAt b at s st x) (at + queuePlace (other s)) 0 ≡ getD b (at + queuePlace (other s)) 0
+given-count b at Caller st x room =
+    let same : length (goneOn b at Caller st false x) ≡ length b = gone-length b at Caller st false x in
+    popped-past (goneOn b at Caller st false x) (at + 4) (omega (arith, room, same)) (at + 53) (omega arith) ∙ gone-kept b at Caller Callee st false x refl refl refl
+given-count b at Callee st x room = popped-before (goneOn b at Callee st false x) (at + 53) (at + 4) (omega arith) ∙ gone-kept b at Callee Caller st false x refl refl refl
 
-pub given-kept : (b : List ℕ) (at : ℕ) (s : Side) (e : End) {w : List ℕ} {q : ℕ} → at + 102 ≤ length b → w ≡ givenAt b at s e → q ≡ queuePlace (other s) → getD w (at + q) 0 ≡ getD b (at + q) 0
-given-kept b at s e room ew eq = rw (ew, eq) (given-count b at s e room)
+pub given-kept : (b : List ℕ) (at : ℕ) (s : Side) (st : State) (x : Signal) {w : List ℕ} {q : ℕ} → at + 614 ≤ length b → w ≡ givenAt b at s st x → q ≡ queuePlace (other s) → getD w (at + q) 0 ≡ getD b (at + q) 0
+given-kept b at s st x room ew eq = rw (ew, eq) (given-count b at s st x room)
 
 -- ---- a step's cases, as the parts of the code leave them
 
@@ -92,23 +138,23 @@ module _ (b : List ℕ) (at : ℕ) where
 
   accept-by : (v : Verdict) → outcomeAt b at Accept (fit v (c .«to_caller» .count + 1)) ≡ oneSentAt b at Callee v Upack
   accept-by (refuse r) = refl
-  accept-by (become e) = rw (count-from Caller b at) (either (outcomeAt b at Accept) (leb (c .«to_caller» .count + 1) 16) (become e) (refuse BrokenRecord))
+  accept-by (become st) = rw (count-from Caller b at) (either (outcomeAt b at Accept) (leb (c .«to_caller» .count + 1) 16) (become st) (refuse BrokenRecord))
 
   send-by : (s : Side) (t : ℕ) (x : Status) (v : Verdict) → outcomeAt b at (Send s t x) (fit v (queueTo (other s) c .count + 1)) ≡ oneSentAt b at s v (Ordinary t x)
   send-by s t x (refuse r) = refl
-  send-by s t x (become e) = rw (count-from (other s) b at) (either (outcomeAt b at (Send s t x)) (leb (queueTo (other s) c .count + 1) 16) (become e) (refuse BrokenRecord))
+  send-by s t x (become st) = rw (count-from (other s) b at) (either (outcomeAt b at (Send s t x)) (leb (queueTo (other s) c .count + 1) 16) (become st) (refuse BrokenRecord))
 
   teardown-by : (s : Side) (v : Verdict) → outcomeAt b at (Hang-up s) (fit v (queueTo (other s) c .count + 1)) ≡ oneSentAt b at s v Teardown
   teardown-by s (refuse r) = refl
-  teardown-by s (become e) = rw (count-from (other s) b at) (either (outcomeAt b at (Hang-up s)) (leb (queueTo (other s) c .count + 1) 16) (become e) (refuse BrokenRecord))
+  teardown-by s (become st) = rw (count-from (other s) b at) (either (outcomeAt b at (Hang-up s)) (leb (queueTo (other s) c .count + 1) 16) (become st) (refuse BrokenRecord))
 
   busy-by : (v : Verdict) → outcomeAt b at Busy (fit v (c .«to_caller» .count + 3)) ≡ threeSentAt b at v Unavail
   busy-by (refuse r) = refl
-  busy-by (become e) = rw (count-from Caller b at) (either (outcomeAt b at Busy) (leb (c .«to_caller» .count + 3) 16) (become e) (refuse BrokenRecord))
+  busy-by (become st) = rw (count-from Caller b at) (either (outcomeAt b at Busy) (leb (c .«to_caller» .count + 3) 16) (become st) (refuse BrokenRecord))
 
   unobtainable-by : (v : Verdict) → outcomeAt b at Unobtainable (fit v (c .«to_caller» .count + 3)) ≡ threeSentAt b at v Unknown
   unobtainable-by (refuse r) = refl
-  unobtainable-by (become e) = rw (count-from Caller b at) (either (outcomeAt b at Unobtainable) (leb (c .«to_caller» .count + 3) 16) (become e) (refuse BrokenRecord))
+  unobtainable-by (become st) = rw (count-from Caller b at) (either (outcomeAt b at Unobtainable) (leb (c .«to_caller» .count + 3) 16) (become st) (refuse BrokenRecord))
 
   pub accepts : actedAt b at Accept ≡ oneSentAt b at Callee (answers (stateOf Callee c) Linked) Upack
   accepts = accept-by (answers (stateOf Callee c) Linked)
@@ -119,8 +165,8 @@ module _ (b : List ℕ) (at : ℕ) where
   pub is-unobtainable : actedAt b at Unobtainable ≡ threeSentAt b at (answers (stateOf Callee c) Unlinking) Unknown
   is-unobtainable = unobtainable-by (answers (stateOf Callee c) Unlinking)
 
-  pub sends-one : (s : Side) (t : ℕ) (x : Status) → actedAt b at (Send s t x) ≡ oneSentAt b at s (speaks (stateOf s c) t x (queueTo (other s) c .count)) (Ordinary t x)
-  sends-one s t x = send-by s t x (speaks (stateOf s c) t x (queueTo (other s) c .count))
+  pub sends-one : (s : Side) (t : ℕ) (x : Status) → actedAt b at (Send s t x) ≡ oneSentAt b at s (speaks s (endOf s c) t x (queueTo (other s) c .count)) (Ordinary t x)
+  sends-one s t x = send-by s t x (speaks s (endOf s c) t x (queueTo (other s) c .count))
 
   pub tears-down : (s : Side) → actedAt b at (Hang-up s) ≡ oneSentAt b at s (tears (stateOf s c)) Teardown
   tears-down s = teardown-by s (tears (stateOf s c))
@@ -129,19 +175,19 @@ module _ (b : List ℕ) (at : ℕ) where
     pub deliver-none : queueTo s c .count ≡ 0 → actedAt b at (Deliver s) ≡ refusingAt b NothingWaiting
     deliver-none h = rw h
 
-    pub deliver-refuse : (r : Refusal) → 0 < queueTo s c .count → takes (stateOf s c) (slot (queueTo s c .slots) 0 .signal) ≡ refuse r → actedAt b at (Deliver s) ≡ refusingAt b r
+    pub deliver-refuse : (r : Refusal) → 0 < queueTo s c .count → takes s (endOf s c) (slot (queueTo s c .slots) 0 .signal) ≡ refuse r → actedAt b at (Deliver s) ≡ refusingAt b r
     deliver-refuse r h t = rw (waiting-some c s h, t)
 
-    become-as : (x : Signal) (w : List Signal) (e : End) → waiting s c ≡ x ∷ w → takes (stateOf s c) x ≡ become e → queueTo (other s) c .count ≤ 16 → actedAt b at (Deliver s) ≡ repliedAt b at s e x
-    become-as Upack w e h t n = rw (h, t, le-leb (queueTo (other s) c .count + 0) 16 (omega arith)) (rw h)
-    become-as (Ordinary i x) w e h t n = rw (h, t, le-leb (queueTo (other s) c .count + 0) 16 (omega arith)) (rw h)
-    become-as Downack w e h t n = rw (h, t, le-leb (queueTo (other s) c .count + 0) 16 (omega arith)) (rw h)
-    become-as Teardown w e h t n =
-        rw (h, t, count-from (other s) b at) (either (λ v. outcomeAt b at (Deliver s) v) (leb (queueTo (other s) c .count + 1) 16) (become e) (refuse BrokenRecord) ∙ rw h)
+    become-as : (x : Signal) (w : List Signal) (st : State) → waiting s c ≡ x ∷ w → takes s (endOf s c) x ≡ become st → queueTo (other s) c .count ≤ 16 → actedAt b at (Deliver s) ≡ repliedAt b at s st x
+    become-as Upack w st h t n = rw (h, t, le-leb (queueTo (other s) c .count + 0) 16 (omega arith)) (rw h)
+    become-as (Ordinary i x) w st h t n = rw (h, t, le-leb (queueTo (other s) c .count + 0) 16 (omega arith)) (rw h)
+    become-as Downack w st h t n = rw (h, t, le-leb (queueTo (other s) c .count + 0) 16 (omega arith)) (rw h)
+    become-as Teardown w st h t n =
+        rw (h, t, count-from (other s) b at) (either (λ v. outcomeAt b at (Deliver s) v) (leb (queueTo (other s) c .count + 1) 16) (become st) (refuse BrokenRecord) ∙ rw h)
 
-    pub deliver-become : (e : End) → 0 < queueTo s c .count → queueTo (other s) c .count ≤ 16 → takes (stateOf s c) (slot (queueTo s c .slots) 0 .signal) ≡ become e
-        → actedAt b at (Deliver s) ≡ repliedAt b at s e (slot (queueTo s c .slots) 0 .signal)
-    deliver-become e h n t = become-as _ _ e (waiting-some c s h) t n
+    pub deliver-become : (st : State) → 0 < queueTo s c .count → queueTo (other s) c .count ≤ 16 → takes s (endOf s c) (slot (queueTo s c .slots) 0 .signal) ≡ become st
+        → actedAt b at (Deliver s) ≡ repliedAt b at s st (slot (queueTo s c .slots) 0 .signal)
+    deliver-become st h n t = become-as _ _ st (waiting-some c s h) t n
 
   -- the counts
   module _ (k : Command) where
@@ -155,11 +201,22 @@ module _ (b : List ℕ) (at : ℕ) where
     step-acted g h = rw (le-leb (c .«to_caller» .count) 16 g, le-leb (c .«to_callee» .count) 16 h)
 
     -- where no record is, and where one is
-    pub not-there : length b < at + 102 → refusingAt b NoSuchCall ≡ commandAt b at k
-    not-there h = rw (lt-leb (at + 102) (length b) h)
+    pub not-there : length b < at + 614 → refusingAt b NoSuchCall ≡ commandAt b at k
+    not-there h = rw (lt-leb (at + 614) (length b) h)
 
-    pub there : at + 102 ≤ length b → stepAt b at k ≡ commandAt b at k
-    there h = rw (le-leb (at + 102) (length b) h)
+    pub there : at + 614 ≤ length b → stepAt b at k ≡ commandAt b at k
+    there h = rw (le-leb (at + 614) (length b) h)
+
+-- ---- the verdict of a send and of a delivery, by the bytes that decide it
+
+module _ (b : List ℕ) (at : ℕ) (s : Side) {st : State} (est : st ≡ stateOf s (callAt b at)) where
+  pub spoken : (t : ℕ) (x : Status) {n q : ℕ} {v : Verdict} → n ≡ channelAt t (endOf s (callAt b at) .channels) → q ≡ queuePlace (other s) → v ≡ speaksWith st s t x n (getD b (at + q) 0)
+      → v ≡ speaks s (endOf s (callAt b at)) t x (queueTo (other s) (callAt b at) .count)
+  spoken t x en eq ev = ev ∙ rw (est, en, eq, count-from (other s) b at) refl
+
+  pub heard : {x : Signal} {n : ℕ} {v : Verdict} → x ≡ slot (queueTo s (callAt b at) .slots) 0 .signal → n ≡ channelFor x (endOf s (callAt b at) .channels) → v ≡ takesWith st s x n
+      → v ≡ takes s (endOf s (callAt b at)) (slot (queueTo s (callAt b at) .slots) 0 .signal)
+  heard ex en ev = ev ∙ rw (est, en, ex) refl
 
 -- ---- what a function of the code gives
 
@@ -175,44 +232,43 @@ module _ (b : List ℕ) (at : ℕ) where
   refusing-as e = rw e (refl, refl)
 
   module _ (s : Side) where
-    pub one-more : {v : Verdict} {e : End} {w : List ℕ} (x : Signal) {q : ℕ} {z : List ℕ} → w ≡ settledAt b at s e → v ≡ become e → q ≡ queuePlace (other s) → getD b (at + q) 0 ≤ 15
-        → z ≡ pushedAt w (at + q) x → Gives (oneSentAt b at s v x) Accepted z
-    one-more x ew ev eq h ez = rw (ev, le-leb (getD b (at + queuePlace (other s)) 0 + 1) 16 (omega (arith, rw eq at h))) (refl, ez ∙ rw (ew, eq) refl)
+    pub one-more : {v : Verdict} {st : State} {w w₁ : List ℕ} (x : Signal) {q : ℕ} {z : List ℕ} → w ≡ settledAt b at s st → w₁ ≡ passedAt w at s true x → v ≡ become st → q ≡ queuePlace (other s) → getD b (at + q) 0 ≤ 15
+        → z ≡ pushedAt w₁ (at + q) x → Gives (oneSentAt b at s v x) Accepted z
+    one-more x ew ew₁ ev eq h ez = rw (ev, le-leb (getD b (at + queuePlace (other s)) 0 + 1) 16 (omega (arith, rw eq at h))) (refl, ez ∙ rw (ew₁, ew, eq) refl)
 
     pub one-refused : {v : Verdict} (x : Signal) {r : Refusal} → v ≡ refuse r → Gives (oneSentAt b at s v x) (Refused r) b
     one-refused x ev = rw ev (refl, refl)
 
-    pub one-over : {v : Verdict} (x : Signal) {e : End} {q : ℕ} → v ≡ become e → q ≡ queuePlace (other s) → 15 < getD b (at + q) 0 → Gives (oneSentAt b at s v x) (Refused BrokenRecord) b
+    pub one-over : {v : Verdict} (x : Signal) {st : State} {q : ℕ} → v ≡ become st → q ≡ queuePlace (other s) → 15 < getD b (at + q) 0 → Gives (oneSentAt b at s v x) (Refused BrokenRecord) b
     one-over x ev eq h = rw (ev, lt-leb (getD b (at + queuePlace (other s)) 0 + 1) 16 (omega (arith, rw eq at h))) (refl, refl)
 
     -- a signal handed over
-    module _ (e : End) {w : List ℕ} (ew : w ≡ givenAt b at s e) where
-      pub handed-upack : {x : Signal} → x ≡ Upack → Gives (repliedAt b at s e x) (Delivered x) w
-      handed-upack ex = rw ex (refl, ew)
+    module _ (st : State) {x : Signal} {w : List ℕ} (ew : w ≡ givenAt b at s st x) where
+      pub handed-upack : x ≡ Upack → Gives (repliedAt b at s st x) (Delivered x) w
+      handed-upack ex = rw ex (refl, rw ex at ew)
 
-      pub handed-ordinary : {x : Signal} {t : ℕ} {y : Status} → x ≡ Ordinary t y → Gives (repliedAt b at s e x) (Delivered x) w
-      handed-ordinary ex = rw ex (refl, ew)
+      pub handed-ordinary : {t : ℕ} {y : Status} → x ≡ Ordinary t y → Gives (repliedAt b at s st x) (Delivered x) w
+      handed-ordinary ex = rw ex (refl, rw ex at ew)
 
-      pub handed-downack : {x : Signal} → x ≡ Downack → Gives (repliedAt b at s e x) (Delivered x) w
-      handed-downack ex = rw ex (refl, ew)
+      pub handed-downack : x ≡ Downack → Gives (repliedAt b at s st x) (Delivered x) w
+      handed-downack ex = rw ex (refl, rw ex at ew)
 
-      pub handed-teardown : {x : Signal} {q : ℕ} {z : List ℕ} → x ≡ Teardown → q ≡ queuePlace (other s) → getD b (at + q) 0 ≤ 15 → z ≡ pushedAt w (at + q) Downack
-          → Gives (repliedAt b at s e x) (Delivered x) z
-      handed-teardown ex eq h ez = rw (ex, le-leb (getD b (at + queuePlace (other s)) 0 + 1) 16 (omega (arith, rw eq at h))) (refl, ez ∙ rw (ew, eq) refl)
+      pub handed-teardown : {q : ℕ} {z : List ℕ} → x ≡ Teardown → q ≡ queuePlace (other s) → getD b (at + q) 0 ≤ 15 → z ≡ pushedAt w (at + q) Downack → Gives (repliedAt b at s st x) (Delivered x) z
+      handed-teardown ex eq h ez = rw (ex, le-leb (getD b (at + queuePlace (other s)) 0 + 1) 16 (omega (arith, rw eq at h))) (refl, ez ∙ rw (ew, eq, ex) refl)
 
-    pub no-reply : (e : End) {x : Signal} {q : ℕ} → x ≡ Teardown → q ≡ queuePlace (other s) → 15 < getD b (at + q) 0 → Gives (repliedAt b at s e x) (Refused BrokenRecord) b
-    no-reply e ex eq h = rw (ex, lt-leb (getD b (at + queuePlace (other s)) 0 + 1) 16 (omega (arith, rw eq at h))) (refl, refl)
+    pub no-reply : (st : State) {x : Signal} {q : ℕ} → x ≡ Teardown → q ≡ queuePlace (other s) → 15 < getD b (at + q) 0 → Gives (repliedAt b at s st x) (Refused BrokenRecord) b
+    no-reply st ex eq h = rw (ex, lt-leb (getD b (at + queuePlace (other s)) 0 + 1) 16 (omega (arith, rw eq at h))) (refl, refl)
 
   -- three signals of the callee
   pub three-refused : {v : Verdict} (x : Status) {r : Refusal} → v ≡ refuse r → Gives (threeSentAt b at v x) (Refused r) b
   three-refused x ev = rw ev (refl, refl)
 
-  pub three-over : {v : Verdict} (x : Status) {e : End} → v ≡ become e → 13 < getD b (at + 4) 0 → Gives (threeSentAt b at v x) (Refused BrokenRecord) b
+  pub three-over : {v : Verdict} (x : Status) {st : State} → v ≡ become st → 13 < getD b (at + 4) 0 → Gives (threeSentAt b at v x) (Refused BrokenRecord) b
   three-over x ev h = rw (ev, lt-leb (getD b (at + 4) 0 + 3) 16 (omega (arith, h))) (refl, refl)
 
-  pub three-more : {v : Verdict} (x : Status) (e : End) {w y₁ y₂ y₃ : List ℕ} → v ≡ become e → getD b (at + 4) 0 ≤ 13 → w ≡ settledAt b at Callee e
+  pub three-more : {v : Verdict} (x : Status) (st : State) {w y₁ y₂ y₃ : List ℕ} → v ≡ become st → getD b (at + 4) 0 ≤ 13 → w ≡ settledAt b at Callee st
       → y₁ ≡ pushedAt w (at + 4) Upack → y₂ ≡ pushedAt y₁ (at + 4) (Ordinary 0 x) → y₃ ≡ pushedAt y₂ (at + 4) Teardown → Gives (threeSentAt b at v x) Accepted y₃
-  three-more x e ev h ew e₁ e₂ e₃ = rw (ev, le-leb (getD b (at + 4) 0 + 3) 16 (omega (arith, h))) (refl, rw (e₃, e₂, e₁, ew) refl)
+  three-more x st ev h ew e₁ e₂ e₃ = rw (ev, le-leb (getD b (at + 4) 0 + 3) 16 (omega (arith, h))) (refl, rw (e₃, e₂, e₁, ew) refl)
 
 -- a count after one signal more
 pub one-counted : (w : List ℕ) (q : ℕ) (x : Signal) {z : List ℕ} → q + 49 ≤ length w → z ≡ pushedAt w q x → getD z q 0 ≡ getD w q 0 + 1

@@ -1,23 +1,23 @@
 -- What the parts of the code leave of the bytes, in the words of Steps. Only contracts of private functions go by this. Assumes nothing.
 use Prim.Native.Nat.{ℕ, _+_}
-use mathlib.Core.Bool.{cond}
+use mathlib.Core.Bool.{true, false, cond}
 use mathlib.Core.List.{List, [], _∷_}
 use lib.Dec.{leb}
 use lib.ListN.{getD}
 use Rattle.refusal.specs.declared.Refusal.the-variants.{BrokenRecord}
-use Rattle.ends.specs.declared.End.{End}
+use Rattle.ends.specs.declared.State.{State}
 use Rattle.ends.specs.declared.Status.{Status}
 use Rattle.ends.specs.declared.Signal.{Signal}
 use Rattle.ends.specs.declared.Signal.the-variants.{Upack, Ordinary, Teardown, Downack}
 use Rattle.ends.specs.declared.Verdict.{Verdict}
 use Rattle.ends.specs.declared.Verdict.the-variants.{Refuse as refuse, Become as become}
-use Rattle.call.specs.declared.Side.{Side}
-use Rattle.call.specs.declared.Side.the-variants.{Caller, Callee}
+use Rattle.ends.specs.declared.Side.{Side}
+use Rattle.ends.specs.declared.Side.the-variants.{Caller, Callee}
 use Rattle.call.specs.declared.Command.{Command}
 use Rattle.call.specs.declared.Answer.the-variants.{Accepted, Delivered}
 use Rattle.call.specs.Protocol.{other, judged}
 use Rattle.recordbytes.specs.Records.{queuePlace, callAt}
-use Rattle.recordbytes.specs.Steps.{Stepped, refusingAt, settledAt, pushedAt, pushesAt, poppedAt, outcomeAt}
+use Rattle.recordbytes.specs.Steps.{Stepped, refusingAt, settledAt, passedAt, pushedAt, pushesAt, poppedAt, outcomeAt}
 
 -- the step of a record whose counts are at most 16
 abbrev pub actedAt : List ℕ → ℕ → Command → Stepped
@@ -26,27 +26,27 @@ actedAt b at k = outcomeAt b at k (judged (callAt b at) k)
 -- a side's end goes on by a verdict and sends one signal, where there is room for it
 abbrev pub oneSentAt : List ℕ → ℕ → Side → Verdict → Signal → Stepped
 oneSentAt b at s (refuse r) x = refusingAt b r
-oneSentAt b at s (become e) x =
+oneSentAt b at s (become st) x =
     cond (leb (getD b (at + queuePlace (other s)) 0 + 1) 16)
-    (record { answer = Accepted; bytes = pushedAt (settledAt b at s e) (at + queuePlace (other s)) x }) (refusingAt b BrokenRecord)
+    (record { answer = Accepted; bytes = pushedAt (passedAt (settledAt b at s st) at s true x) (at + queuePlace (other s)) x }) (refusingAt b BrokenRecord)
 
 -- the callee goes on by a verdict and sends upack, a status and teardown, where there is room for the three
 abbrev pub threeSentAt : List ℕ → ℕ → Verdict → Status → Stepped
 threeSentAt b at (refuse r) x = refusingAt b r
-threeSentAt b at (become e) x =
+threeSentAt b at (become st) x =
     cond (leb (getD b (at + queuePlace Caller) 0 + 3) 16)
-    (record { answer = Accepted; bytes = pushesAt (settledAt b at Callee e) (at + queuePlace Caller) (Upack ∷ Ordinary 0 x ∷ Teardown ∷ []) })
+    (record { answer = Accepted; bytes = pushesAt (settledAt b at Callee st) (at + queuePlace Caller) (Upack ∷ Ordinary 0 x ∷ Teardown ∷ []) })
     (refusingAt b BrokenRecord)
 
--- a side's end goes on, and the head of the queue towards it goes out
-abbrev pub givenAt : List ℕ → ℕ → Side → End → List ℕ
-givenAt b at s e = poppedAt (settledAt b at s e) (at + queuePlace s)
+-- a side's end goes on, a signal passes its channel, and the head of the queue towards it goes out
+abbrev pub givenAt : List ℕ → ℕ → Side → State → Signal → List ℕ
+givenAt b at s st x = poppedAt (passedAt (settledAt b at s st) at s false x) (at + queuePlace s)
 
 -- a signal handed over, and a teardown answered by a downack, where there is room for it
-abbrev pub repliedAt : List ℕ → ℕ → Side → End → Signal → Stepped
-repliedAt b at s e Upack = record { answer = Delivered Upack; bytes = givenAt b at s e }
-repliedAt b at s e (Ordinary tunnel x) = record { answer = Delivered (Ordinary tunnel x); bytes = givenAt b at s e }
-repliedAt b at s e Downack = record { answer = Delivered Downack; bytes = givenAt b at s e }
-repliedAt b at s e Teardown =
+abbrev pub repliedAt : List ℕ → ℕ → Side → State → Signal → Stepped
+repliedAt b at s st Upack = record { answer = Delivered Upack; bytes = givenAt b at s st Upack }
+repliedAt b at s st (Ordinary tunnel x) = record { answer = Delivered (Ordinary tunnel x); bytes = givenAt b at s st (Ordinary tunnel x) }
+repliedAt b at s st Downack = record { answer = Delivered Downack; bytes = givenAt b at s st Downack }
+repliedAt b at s st Teardown =
     cond (leb (getD b (at + queuePlace (other s)) 0 + 1) 16)
-    (record { answer = Delivered Teardown; bytes = pushedAt (givenAt b at s e) (at + queuePlace (other s)) Downack }) (refusingAt b BrokenRecord)
+    (record { answer = Delivered Teardown; bytes = pushedAt (givenAt b at s st Teardown) (at + queuePlace (other s)) Downack }) (refusingAt b BrokenRecord)

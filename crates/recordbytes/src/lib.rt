@@ -1,9 +1,8 @@
-// A command on a call record in lent bytes, for programs in other languages (01 'Calls'). It is decided by few bytes of the record: the two counts, the acting end's state, the head of the queue towards it. What is accepted
+// A command on a call record in lent bytes, for programs in other languages (01 'Calls'). It is decided by few bytes of the record: the two counts, the acting end's state, the head of the queue towards it, one channel. What is accepted
 // changes the record where it stands, and only the bytes that it must; a refusal changes none.
 use call::Answer;
 use call::Command;
 use call::Side;
-use ends::End;
 use ends::Signal;
 use ends::State;
 use ends::Status;
@@ -13,9 +12,10 @@ ghost use mathlib.Core.Path.{_≡_};
 ghost use Prim.Native.Nat.{_+_, _≤_, _<_};
 ghost use lib.ListN.{length, getD, take, drop};
 ghost use lib.Seq.{sets};
-ghost use Rattle.call.specs.Protocol.{other, endOf, queueTo, slot};
-ghost use Rattle.recordbytes.specs.Records.{statePlace, queuePlace, callAt};
-ghost use Rattle.recordbytes.specs.Steps.{settledAt, pushedAt, poppedAt, stepAt, commandAt};
+ghost use Rattle.ends.specs.Ends.{channelAt, channelFor};
+ghost use Rattle.call.specs.Protocol.{other, endOf, stateOf, queueTo, slot};
+ghost use Rattle.recordbytes.specs.Records.{statePlace, queuePlace, channelPlace, callAt};
+ghost use Rattle.recordbytes.specs.Steps.{settledAt, touchedAt, passedAt, pushedAt, poppedAt, stepAt, commandAt};
 ghost use Rattle.recordbytes.specs.Parts.{actedAt, oneSentAt, threeSentAt, givenAt, repliedAt};
 
 // ---- the parts of a record
@@ -49,18 +49,54 @@ fn queue_from(s: Side) -> usize
     }
 }
 
-fn end_at(b: &[u8], at: usize, s: Side) -> End
-    requires { ⌜ at + 102 ≤ length (now b) ⌝ }
-    ensures { λ r. ⌜ r ≡ endOf s (callAt (now (b .entry)) at) ⌝ }
+// Where a side's channels begin.
+fn channel_place(s: Side) -> usize
+    ensures { λ r. ⌜ (r ≡ channelPlace s) × (r ≤ 358) ⌝ }
+{
+    match s {
+        Side::Caller => 102,
+        Side::Callee => 358,
+    }
+}
+
+fn state_at(b: &[u8], at: usize, s: Side) -> State
+    requires { ⌜ at + 614 ≤ length (now b) ⌝ }
+    ensures { λ r. ⌜ r ≡ stateOf s (callAt (now (b .entry)) at) ⌝ }
 {
     let n = state_place(s);
-    End {
-        state: signalbytes::state_said(b[at + n]),
+    signalbytes::state_said(b[at + n])
+}
+
+fn wide(n: u8) -> usize
+    ensures { λ r. ⌜ (r ≡ n) × (r < 256) ⌝ }
+{
+    n as usize
+}
+
+fn channel_at(b: &[u8], at: usize, s: Side, tunnel: u8) -> u8
+    requires { ⌜ at + 614 ≤ length (now b) ⌝ }
+    ensures { λ r. ⌜ r ≡ channelAt tunnel (endOf s (callAt (now (b .entry)) at) .channels) ⌝ }
+{
+    let p = at + channel_place(s);
+    let t = wide(tunnel);
+    b[p + t]
+}
+
+// The channel that a signal is for; 0 for a signal that is for none.
+fn channel_for(b: &[u8], at: usize, s: Side, x: Signal) -> u8
+    requires { ⌜ at + 614 ≤ length (now b) ⌝ }
+    ensures { λ r. ⌜ r ≡ channelFor x (endOf s (callAt (now (b .entry)) at) .channels) ⌝ }
+{
+    match x {
+        Signal::Upack => 0,
+        Signal::Ordinary(tunnel, _) => channel_at(b, at, s, tunnel),
+        Signal::Teardown => 0,
+        Signal::Downack => 0,
     }
 }
 
 fn head_at(b: &[u8], at: usize, s: Side) -> Signal
-    requires { ⌜ at + 102 ≤ length (now b) ⌝ }
+    requires { ⌜ at + 614 ≤ length (now b) ⌝ }
     ensures { λ r. ⌜ r ≡ slot (queueTo s (callAt (now (b .entry)) at) .slots) 0 .signal ⌝ }
 {
     let q = at + queue_to(s);
@@ -70,13 +106,41 @@ fn head_at(b: &[u8], at: usize, s: Side) -> Signal
 // ---- a record changed where it stands
 
 // A side's end goes on.
-fn settle(row: &mut [u8], at: usize, s: Side, e: End)
-    requires { ⌜ at + 102 ≤ length (now row) ⌝ }
-    ensures { λ _. ⌜ now (row .exit) ≡ settledAt (now (row .entry)) at s e ⌝ }
+fn settle(row: &mut [u8], at: usize, s: Side, state: State)
+    requires { ⌜ at + 614 ≤ length (now row) ⌝ }
+    ensures { λ _. ⌜ now (row .exit) ≡ settledAt (now (row .entry)) at s state ⌝ }
 {
-    let state = e.state;
     let n = state_place(s);
     row[at + n] = signalbytes::state_number(state);
+}
+
+// A channel goes on.
+fn touch_tunnel(row: &mut [u8], at: usize, s: Side, sends: bool, tunnel: u8, status: Status)
+    requires { ⌜ at + 614 ≤ length (now row) ⌝ }
+    ensures { λ _. ⌜ now (row .exit) ≡ touchedAt (now (row .entry)) at s sends tunnel status ⌝ }
+{
+    let p = at + channel_place(s);
+    let t = wide(tunnel);
+    let n = row[p + t];
+    row[p + t] = ends::next_with(s, sends, tunnel, status, n);
+}
+
+// A signal that is sent, or taken, passes the channel of its tunnel.
+fn touch(row: &mut [u8], at: usize, s: Side, sends: bool, x: Signal)
+    requires { ⌜ at + 614 ≤ length (now row) ⌝ }
+    ensures { λ _. ⌜ now (row .exit) ≡ passedAt (now (row .entry)) at s sends x ⌝ }
+{
+    match x {
+        Signal::Upack => {}
+        Signal::Teardown => {}
+        Signal::Downack => {}
+        Signal::Ordinary(tunnel, status) => {
+            if tunnel == 0 {
+                return;
+            }
+            touch_tunnel(row, at, s, sends, tunnel, status);
+        }
+    }
 }
 
 // One signal more in the queue that begins at q.
@@ -119,17 +183,18 @@ fn pop(row: &mut [u8], q: usize)
 
 // A side's end goes on and sends one signal.
 fn one_sent(row: &mut [u8], at: usize, s: Side, v: Verdict, x: Signal) -> Answer
-    requires { ⌜ at + 102 ≤ length (now row) ⌝ }
+    requires { ⌜ at + 614 ≤ length (now row) ⌝ }
     ensures { λ z. ⌜ (z ≡ oneSentAt (now (row .entry)) at s v x .answer) × (now (row .exit) ≡ oneSentAt (now (row .entry)) at s v x .bytes) ⌝ }
 {
     match v {
         Verdict::Refuse(r) => Answer::Refused(r),
-        Verdict::Become(e) => {
+        Verdict::Become(state) => {
             let q = at + queue_from(s);
             if 15 < row[q] {
                 return Answer::Refused(Refusal::BrokenRecord);
             }
-            settle(row, at, s, e);
+            settle(row, at, s, state);
+            touch(row, at, s, true, x);
             push(row, q, x);
             Answer::Accepted
         }
@@ -138,17 +203,17 @@ fn one_sent(row: &mut [u8], at: usize, s: Side, v: Verdict, x: Signal) -> Answer
 
 // The callee goes on and sends upack, a status and teardown; all three or none.
 fn three_sent(row: &mut [u8], at: usize, v: Verdict, status: Status) -> Answer
-    requires { ⌜ at + 102 ≤ length (now row) ⌝ }
+    requires { ⌜ at + 614 ≤ length (now row) ⌝ }
     ensures { λ z. ⌜ (z ≡ threeSentAt (now (row .entry)) at v status .answer) × (now (row .exit) ≡ threeSentAt (now (row .entry)) at v status .bytes) ⌝ }
 {
     match v {
         Verdict::Refuse(r) => Answer::Refused(r),
-        Verdict::Become(e) => {
+        Verdict::Become(state) => {
             let q = at + 4;
             if 13 < row[q] {
                 return Answer::Refused(Refusal::BrokenRecord);
             }
-            settle(row, at, Side::Callee, e);
+            settle(row, at, Side::Callee, state);
             push(row, q, Signal::Upack);
             push(row, q, Signal::Ordinary(0, status));
             push(row, q, Signal::Teardown);
@@ -158,72 +223,74 @@ fn three_sent(row: &mut [u8], at: usize, v: Verdict, status: Status) -> Answer
 }
 
 fn accept(row: &mut [u8], at: usize) -> Answer
-    requires { ⌜ at + 102 ≤ length (now row) ⌝ }
+    requires { ⌜ at + 614 ≤ length (now row) ⌝ }
     ensures { λ z. ⌜ (z ≡ actedAt (now (row .entry)) at Command.Accept .answer) × (now (row .exit) ≡ actedAt (now (row .entry)) at Command.Accept .bytes) ⌝ }
 {
-    let v = end_at(row, at, Side::Callee).answer(State::Linked);
+    let v = ends::answer_with(state_at(row, at, Side::Callee), State::Linked);
     one_sent(row, at, Side::Callee, v, Signal::Upack)
 }
 
 fn busy(row: &mut [u8], at: usize) -> Answer
-    requires { ⌜ at + 102 ≤ length (now row) ⌝ }
+    requires { ⌜ at + 614 ≤ length (now row) ⌝ }
     ensures { λ z. ⌜ (z ≡ actedAt (now (row .entry)) at Command.Busy .answer) × (now (row .exit) ≡ actedAt (now (row .entry)) at Command.Busy .bytes) ⌝ }
 {
-    let v = end_at(row, at, Side::Callee).answer(State::Unlinking);
+    let v = ends::answer_with(state_at(row, at, Side::Callee), State::Unlinking);
     three_sent(row, at, v, Status::Unavail)
 }
 
 fn unobtainable(row: &mut [u8], at: usize) -> Answer
-    requires { ⌜ at + 102 ≤ length (now row) ⌝ }
+    requires { ⌜ at + 614 ≤ length (now row) ⌝ }
     ensures { λ z. ⌜ (z ≡ actedAt (now (row .entry)) at Command.Unobtainable .answer) × (now (row .exit) ≡ actedAt (now (row .entry)) at Command.Unobtainable .bytes) ⌝ }
 {
-    let v = end_at(row, at, Side::Callee).answer(State::Unlinking);
+    let v = ends::answer_with(state_at(row, at, Side::Callee), State::Unlinking);
     three_sent(row, at, v, Status::Unknown)
 }
 
 fn send(row: &mut [u8], at: usize, s: Side, tunnel: u8, status: Status) -> Answer
-    requires { ⌜ at + 102 ≤ length (now row) ⌝ }
+    requires { ⌜ at + 614 ≤ length (now row) ⌝ }
     ensures { λ z. ⌜ (z ≡ actedAt (now (row .entry)) at (Command.Send s tunnel status) .answer) × (now (row .exit) ≡ actedAt (now (row .entry)) at (Command.Send s tunnel status) .bytes) ⌝ }
 {
     let q = at + queue_from(s);
     let waiting = row[q];
-    let v = end_at(row, at, s).speak(tunnel, status, waiting);
+    let channel = channel_at(row, at, s, tunnel);
+    let v = ends::speak_with(state_at(row, at, s), s, tunnel, status, channel, waiting);
     one_sent(row, at, s, v, Signal::Ordinary(tunnel, status))
 }
 
 fn teardown(row: &mut [u8], at: usize, s: Side) -> Answer
-    requires { ⌜ at + 102 ≤ length (now row) ⌝ }
+    requires { ⌜ at + 614 ≤ length (now row) ⌝ }
     ensures { λ z. ⌜ (z ≡ actedAt (now (row .entry)) at (Command.Teardown s) .answer) × (now (row .exit) ≡ actedAt (now (row .entry)) at (Command.Teardown s) .bytes) ⌝ }
 {
-    let v = end_at(row, at, s).tear();
+    let v = ends::tear_with(state_at(row, at, s));
     one_sent(row, at, s, v, Signal::Teardown)
 }
 
-// A side's end goes on, and the head of the queue towards it goes out.
-fn given(row: &mut [u8], at: usize, s: Side, e: End)
-    requires { ⌜ (at + 102 ≤ length (now row)) × (0 < queueTo s (callAt (now row) at) .count) ⌝ }
-    ensures { λ _. ⌜ now (row .exit) ≡ givenAt (now (row .entry)) at s e ⌝ }
+// A side's end goes on, a signal passes its channel, and the head of the queue towards it goes out.
+fn given(row: &mut [u8], at: usize, s: Side, state: State, x: Signal)
+    requires { ⌜ (at + 614 ≤ length (now row)) × (0 < queueTo s (callAt (now row) at) .count) ⌝ }
+    ensures { λ _. ⌜ now (row .exit) ≡ givenAt (now (row .entry)) at s state x ⌝ }
 {
-    settle(row, at, s, e);
+    settle(row, at, s, state);
+    touch(row, at, s, false, x);
     let q = at + queue_to(s);
     pop(row, q);
 }
 
 // A signal handed over, and a teardown answered by a downack.
-fn replied(row: &mut [u8], at: usize, s: Side, e: End, x: Signal) -> Answer
-    requires { ⌜ (at + 102 ≤ length (now row)) × (0 < queueTo s (callAt (now row) at) .count) ⌝ }
-    ensures { λ z. ⌜ (z ≡ repliedAt (now (row .entry)) at s e x .answer) × (now (row .exit) ≡ repliedAt (now (row .entry)) at s e x .bytes) ⌝ }
+fn replied(row: &mut [u8], at: usize, s: Side, state: State, x: Signal) -> Answer
+    requires { ⌜ (at + 614 ≤ length (now row)) × (0 < queueTo s (callAt (now row) at) .count) ⌝ }
+    ensures { λ z. ⌜ (z ≡ repliedAt (now (row .entry)) at s state x .answer) × (now (row .exit) ≡ repliedAt (now (row .entry)) at s state x .bytes) ⌝ }
 {
     match x {
-        Signal::Upack => given(row, at, s, e),
-        Signal::Ordinary(_, _) => given(row, at, s, e),
-        Signal::Downack => given(row, at, s, e),
+        Signal::Upack => given(row, at, s, state, x),
+        Signal::Ordinary(_, _) => given(row, at, s, state, x),
+        Signal::Downack => given(row, at, s, state, x),
         Signal::Teardown => {
             let q = at + queue_from(s);
             if 15 < row[q] {
                 return Answer::Refused(Refusal::BrokenRecord);
             }
-            given(row, at, s, e);
+            given(row, at, s, state, x);
             push(row, q, Signal::Downack);
         }
     }
@@ -231,7 +298,7 @@ fn replied(row: &mut [u8], at: usize, s: Side, e: End, x: Signal) -> Answer
 }
 
 fn deliver(row: &mut [u8], at: usize, s: Side) -> Answer
-    requires { ⌜ (at + 102 ≤ length (now row)) × (queueTo (other s) (callAt (now row) at) .count ≤ 16) ⌝ }
+    requires { ⌜ (at + 614 ≤ length (now row)) × (queueTo (other s) (callAt (now row) at) .count ≤ 16) ⌝ }
     ensures { λ z. ⌜ (z ≡ actedAt (now (row .entry)) at (Command.Deliver s) .answer) × (now (row .exit) ≡ actedAt (now (row .entry)) at (Command.Deliver s) .bytes) ⌝ }
 {
     let q = at + queue_to(s);
@@ -239,16 +306,17 @@ fn deliver(row: &mut [u8], at: usize, s: Side) -> Answer
         return Answer::Refused(Refusal::NothingWaiting);
     }
     let x = head_at(row, at, s);
-    let v = end_at(row, at, s).take(x);
+    let channel = channel_for(row, at, s, x);
+    let v = ends::take_with(state_at(row, at, s), s, x, channel);
     match v {
         Verdict::Refuse(r) => Answer::Refused(r),
-        Verdict::Become(e) => replied(row, at, s, e, x),
+        Verdict::Become(state) => replied(row, at, s, state, x),
     }
 }
 
 // A command for a record whose bytes are there.
 fn step_in(row: &mut [u8], at: usize, k: Command) -> Answer
-    requires { ⌜ at + 102 ≤ length (now row) ⌝ }
+    requires { ⌜ at + 614 ≤ length (now row) ⌝ }
     ensures { λ z. ⌜ (z ≡ stepAt (now (row .entry)) at k .answer) × (now (row .exit) ≡ stepAt (now (row .entry)) at k .bytes) ⌝ }
 {
     if 16 < row[at + 4] {
@@ -267,14 +335,14 @@ fn step_in(row: &mut [u8], at: usize, k: Command) -> Answer
     }
 }
 
-// A command for the record of the 102 bytes from a place on; 10 where there are fewer.
+// A command for the record of the 614 bytes from a place on; 10 where there are fewer.
 pub fn command_at(row: &mut [u8], at: usize, k: Command) -> Answer
     ensures { λ z. ⌜ (z ≡ commandAt (now (row .entry)) at k .answer) × (now (row .exit) ≡ commandAt (now (row .entry)) at k .bytes) ⌝ }
 {
     if row.len() < at {
         return Answer::Refused(Refusal::NoSuchCall);
     }
-    if row.len() - at < 102 {
+    if row.len() - at < 614 {
         return Answer::Refused(Refusal::NoSuchCall);
     }
     step_in(row, at, k)

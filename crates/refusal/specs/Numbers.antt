@@ -1,11 +1,11 @@
--- What each refusal is in document 01: its number, and for 20 to 25 its place. Assumes nothing.
+-- What each refusal is in document 01, and 40 and 41 in document 02: its number, and for 20 to 25 its place. Assumes nothing.
 use Prim.Native.Nat.{ℕ}
 use Rattle.refusal.specs.declared.Refusal.{Refusal}
-use Rattle.refusal.specs.declared.Refusal.the-variants.{NoSuchType, NotForThisBox, WrongAddress, NotReversible, Malformed, NotRoutedHere, BadString, OwnAddress, AddressTooLarge, NoSuchCall, NoFreeRecord, StateForbids, TooManyWaiting, NothingWaiting, NotOrdinary, RowTooLong, BrokenRecord, ListTooShort, WrongEnd, WrongTag, WrongLength, RuleBroken, TooManySubscribers, RoomTooShort}
+use Rattle.refusal.specs.declared.Refusal.the-variants.{NoSuchType, NotForThisBox, WrongAddress, NotReversible, Malformed, NotRoutedHere, BadString, OwnAddress, AddressTooLarge, NoSuchCall, NoFreeRecord, StateForbids, TooManyWaiting, NothingWaiting, NotOrdinary, RowTooLong, BrokenRecord, ListTooShort, WrongEnd, WrongTag, WrongLength, RuleBroken, TooManySubscribers, RoomTooShort, TunnelTaken, ChannelForbids}
 use Rattle.refusal.specs.declared.Place.{Place}
 use Rattle.refusal.specs.declared.Place.the-variants.{Nowhere, At}
 
--- the number of each refusal, as document 01's table has it
+-- the number of each refusal, as the documents' tables have it
 abbrev pub numberOf : Refusal → ℕ
 numberOf NoSuchType = 1
 numberOf NotForThisBox = 2
@@ -31,6 +31,8 @@ numberOf (WrongLength at) = 22
 numberOf (RuleBroken at) = 23
 numberOf (TooManySubscribers at) = 24
 numberOf (RoomTooShort at) = 25
+numberOf TunnelTaken = 40
+numberOf ChannelForbids = 41
 
 -- "20 to 25 also a place": where the refusal applies, counted from 0
 abbrev pub placeOf : Refusal → Place
@@ -58,3 +60,5 @@ placeOf (WrongLength at) = At at
 placeOf (RuleBroken at) = At at
 placeOf (TooManySubscribers at) = At at
 placeOf (RoomTooShort at) = At at
+placeOf TunnelTaken = Nowhere
+placeOf ChannelForbids = Nowhere

@@ -25,6 +25,8 @@ use Rattle.rowbytes.proofs.lowest_free.Reads as lowest-free
 use Rattle.rowbytes.proofs.lowest_free.Kinds as lowest-free-kinds
 use Rattle.rowbytes.proofs.clear.Reads as clear
 use Rattle.rowbytes.proofs.clear.Kinds as clear-kinds
+use Rattle.rowbytes.proofs.command_for.Reads as command-for
+use Rattle.rowbytes.proofs.command_for.Kinds as command-for-kinds
 use Rattle.rowbytes.proofs.command.Reads as command
 use Rattle.rowbytes.proofs.command.Kinds as command-kinds
 use Rattle.rowbytes.proofs.place.Reads as place
@@ -84,3 +86,7 @@ pub port-place-kept : (κs : Lfts 3) (kept : Bool) (port : RefT (List ℕ)) (v :
     → port-place.Post κs (kept, (port, (v, (x, (sources, (targets, tt)))))) r end → r .routed .outcome ≡ Refused y
     → (end .1 .0 .now ≡ port .now) × (end .1 .1 .1 .1 .0 .now ≡ sources .now) × (end .1 .1 .1 .1 .1 .0 .now ≡ targets .now)
 port-place-kept κs kept port v x sources targets end r y p e = (p .1 .0 (ap isRouted e), p .1 .1 (ap isRouted e), p .1 .2 (ap isRouted e))
+
+pub command-for-exact : (κs : Lfts 1) (named : Bool) (row : RefT (List ℕ)) (i u : ℕ) (k : Command) (end end′ : AtExit (endedOf 1 command-for-kinds.ps command-for-kinds.r) κs) (r s : Answer)
+    → command-for.Post κs (named, (row, (i, (u, (k, tt))))) r end → command-for.Post κs (named, (row, (i, (u, (k, tt))))) s end′ → (r ≡ s) × (end .1 .0 .now ≡ end′ .1 .0 .now)
+command-for-exact κs named row i u k end end′ r s p q = (p .0 ∙ sym (q .0), p .1 ∙ sym (q .1))

@@ -2,7 +2,7 @@
 use Prim.Native.Nat.{ℕ, _+_, _*_, _-_, _/_, _≤_, _<_}
 use mathlib.Core.Path.{_≡_, refl, sym, ap, ap₂, subst, _∙_}
 use mathlib.Core.Logic.{_≢_}
-use mathlib.Core.Bool.{Bool, true, false, cond, not, _&&_}
+use mathlib.Core.Bool.{Bool, true, false, cond, not}
 use mathlib.Core.List.{List, [], _∷_, _++_, map}
 use native.Mathlib.Omega.{arith}
 use lib.Dec.{ltb}
@@ -17,58 +17,52 @@ use Rattle.call.specs.declared.Call.{Call}
 use Rattle.call.specs.declared.Command.{Command}
 use Rattle.call.specs.Protocol.{step, cleared, isFree}
 use Rattle.call.specs.History.{accepted}
-use Rattle.call.specs.Row.{Reply, Turn, placed-at, says, Act, place, command, recordAt, lowestFree, inUse, named, refuses, put, placeAt, turn, turns, granted, doing, own}
+use Rattle.call.specs.Row.{Reply, Turn, placed-at, says, Act, place, command, recordAt, lowestFree, named, refuses, put, placeAt, turn, turns, granted, doing, own}
 use Rattle.routing.specs.declared.Outcome.{Outcome}
 use Rattle.teardown.specs.Teardown.{CallIn, FirstTeardownIn}
+use Rattle.teardown.proofs.Media.{noneTwice}
+use Rattle.teardown.proofs.Theorem.{neverUnfit}
 use Rattle.teardown.proofs.Row.{reachedByName, noDeadlockInRow, inOrderInRow, demand3InRow}
 use Rattle.placing.specs.declared.Placed.{Placed}
 use Rattle.placing.specs.Rows.{outcomeIn, turned, answered, placedIn, rowAfter}
-use Rattle.placing.specs.Operations.{Operation, placing, commanding, rowOf, rowsOf, numberFor, PortOperation, placing-there, commanding-it, portOf, portsOf, portNumber, Use, operating, lending, clearing, used, PortUse, operating-it, clearing-it, portUsed, actBy, actsOf, CallPlaced}
+use Rattle.placing.specs.Operations.{Operation, placing, commanding, rowOf, rowsOf, numberFor, PortOperation, placing-there, commanding-it, portOf, portsOf, portNumber, Use, operating, lending, clearing, used, HeadsFit, PortUse, operating-it, clearing-it, portUsed, actBy, actsOf, CallPlaced}
 use Rattle.placing.proofs.Settles.{routing-to, refusing-by, came-by, places}
-use Rattle.placing.proofs.Operations.{as-acts, never17, port-never17, port-reached, port-no-deadlock, port-in-order, port-demand3}
+use Rattle.placing.proofs.Operations.{as-acts, never17, port-never17, never-unfit, port-reached, port-no-deadlock, port-in-order, port-demand3}
 use Rattle.recordbytes.specs.Records.{callAt}
 use Rattle.recordbytes.specs.Steps.{Outside, in-front, behind, stepAt}
 use Rattle.recordbytes.proofs.Places as stores
 use Rattle.recordbytes.proofs.AsStep.{call-same, as-step, only-the-record}
 use Rattle.rowbytes.specs.Rows.{recordsIn, rowIn, clearedIn, commandedIn, placedBytes, placedBy}
-use Rattle.rowbytes.specs.Operations.{bytesOf, portBytesOf, bytesLent, bytesUsed, portBytesUsed, AsRow, AsPort, BytesNever17, CallInBytes, bytesDone, BytesReached, BytesNoDeadlock, BytesInOrder, BytesDemand3, portBytesDone, PortBytesReached, PortBytesNoDeadlock, PortBytesInOrder, PortBytesDemand3}
+use Rattle.rowbytes.specs.Operations.{bytesOf, portBytesOf, bytesLent, bytesUsed, portBytesUsed, AsRow, AsPort, BytesNever17, BytesFit, CallInBytes, bytesDone, BytesReached, BytesNoDeadlock, BytesInOrder, BytesDemand3, BytesNoneTwice, BytesNeverUnfit, portBytesDone, PortBytesReached, PortBytesNoDeadlock, PortBytesInOrder, PortBytesDemand3, PortBytesNoneTwice, PortBytesNeverUnfit}
 use Rattle.rowbytes.proofs.Rows.{row-length, inside, record-in, row-changed, from-0, row-cleared, cleared-length}
-use Rattle.rowbytes.proofs.Turns.{row-granted, not-routed, row-placed, one-record, one-left}
+use Rattle.rowbytes.proofs.Turns.{row-granted, named-inside, not-routed, row-placed, one-record, one-left}
 
 -- ---- one operation on a row
-
--- a record that a command names is within the row
-in-row : (b : List ℕ) (r u : ℕ) → named (rowIn b) r u ≡ true → r < recordsIn b
-in-row b r u e = by (ltb r (length (rowIn b))) refl e
-  where
-    by : (t : Bool) → ltb r (length (rowIn b)) ≡ t → (t && inUse (recordAt (rowIn b) r) u) ≡ true → r < recordsIn b
-    by true f h = subst (λ (n : ℕ). r < n) (row-length b) (ltb-true r (length (rowIn b)) f)
-    by false f h = let z : _≡_ {A = ℕ} 0 1 = cc in absurd (omega arith)
 
 module _ (b : List ℕ) (r u : ℕ) (k : Command) where
   abbrev chosen : Bool → Bool → Turn
   chosen long there = cond long (refuses RowTooLong (rowIn b)) (cond there (put (rowIn b) r (step (recordAt (rowIn b) r) k)) (refuses NoSuchCall (rowIn b)))
 
-  command-row : (long there : Bool) → (there ≡ true → r < recordsIn b) → rowIn (cond (granted (chosen long there .reply)) (stepAt b (102 * r) k .bytes) b) ≡ chosen long there .row
+  command-row : (long there : Bool) → (there ≡ true → r < recordsIn b) → rowIn (cond (granted (chosen long there .reply)) (stepAt b (614 * r) k .bytes) b) ≡ chosen long there .row
   command-row true there h = refl
   command-row false false h = refl
   command-row false true h = row-granted b r k (h refl)
 
 as-row : (b : List ℕ) (x : Operation) → rowIn (bytesOf b x) ≡ rowOf (rowIn b) x
 as-row b (placing p s n m) = row-placed (sound p) b p s n m
-as-row b (commanding r u k) = command-row b r u k (ltb 1024 (length (rowIn b))) (named (rowIn b) r u) (in-row b r u)
+as-row b (commanding r u k) = command-row b r u k (ltb 1024 (length (rowIn b))) (named (rowIn b) r u) (named-inside b r u)
 
 -- ---- one operation on a port
 
 placed-length : (t : Reply) (b : List ℕ) → length (placedBy t b) ≡ length b
-placed-length (placed-at r n) b = length-sets b (102 * r) (placedBytes n)
+placed-length (placed-at r n) b = length-sets b (614 * r) (placedBytes n)
 placed-length (says a) b = refl
 
-port-length : (b : List ℕ) → length b ≡ 102 → (x : PortOperation) → length (portBytesOf b x) ≡ 102
+port-length : (b : List ℕ) → length b ≡ 614 → (x : PortOperation) → length (portBytesOf b x) ≡ 614
 port-length b long (placing-there p s n m) = placed-length (turned (callAt b 0 ∷ []) (outcomeIn (callAt b 0 ∷ []) p s n m) .reply) b ∙ long
 port-length b long (commanding-it k) = only-the-record b 0 k (omega (arith, long)) .0 ∙ long
 
-as-port-of : (b : List ℕ) → length b ≡ 102 → (x : PortOperation) → callAt (portBytesOf b x) 0 ≡ portOf (callAt b 0) x
+as-port-of : (b : List ℕ) → length b ≡ 614 → (x : PortOperation) → callAt (portBytesOf b x) 0 ≡ portOf (callAt b 0) x
 as-port-of b long (placing-there p s n m) =
     one-left (portBytesOf b (placing-there p s n m)) (port-length b long (placing-there p s n m)) (placed-row (rowIn b) (one-record b long) (row-placed (sound p) b p s n m))
   where
@@ -81,36 +75,36 @@ as-port-of b long (commanding-it k) = as-step b 0 k (omega (arith, long)) .1
 
 module _ (b : List ℕ) (r : ℕ) (x : PortOperation) where
   abbrev own-bytes : List ℕ
-  own-bytes = take 102 (drop (102 * r) b)
+  own-bytes = take 614 (drop (614 * r) b)
 
-  own-length : r < recordsIn b → length own-bytes ≡ 102
+  own-length : r < recordsIn b → length own-bytes ≡ 614
   own-length h =
-      let room : 102 * r + 102 ≤ length b = inside b r h in
-      let left : 102 ≤ length (drop (102 * r) b) = simp length-drop (omega (arith, room)) in
-      length-take-le 102 (drop (102 * r) b) left
+      let room : 614 * r + 614 ≤ length b = inside b r h in
+      let left : 614 ≤ length (drop (614 * r) b) = simp length-drop (omega (arith, room)) in
+      length-take-le 614 (drop (614 * r) b) left
 
   own-call : r < recordsIn b → callAt own-bytes 0 ≡ recordAt (rowIn b) r
   own-call h =
-      call-same own-bytes b 0 (102 * r) (λ j l. sym (from-0 own-bytes j) ∙ getD-take 102 (drop (102 * r) b) j 0 l ∙ getD-drop (102 * r) b j 0) ∙ record-in b r h
+      call-same own-bytes b 0 (614 * r) (λ j l. sym (from-0 own-bytes j) ∙ getD-take 614 (drop (614 * r) b) j 0 l ∙ getD-drop (614 * r) b j 0) ∙ record-in b r h
 
-  lent-row : r < recordsIn b → rowIn (sets b (102 * r) (portBytesOf own-bytes x)) ≡ set (rowIn b) r (portOf (recordAt (rowIn b) r) x)
+  lent-row : r < recordsIn b → rowIn (sets b (614 * r) (portBytesOf own-bytes x)) ≡ set (rowIn b) r (portOf (recordAt (rowIn b) r) x)
   lent-row h =
       let w : List ℕ = portBytesOf own-bytes x in
-      let long : length w ≡ 102 = port-length own-bytes (own-length h) x in
-      let room : 102 * r + 102 ≤ length b = inside b r h in
-      let read : callAt (sets b (102 * r) w) (102 * r) ≡ portOf (recordAt (rowIn b) r) x =
-      call-same (sets b (102 * r) w) w (102 * r) 0 (λ j l. stores.within w b (102 * r) j (omega (arith, l, long)) (omega (arith, room, long)) ∙ from-0 w j)
+      let long : length w ≡ 614 = port-length own-bytes (own-length h) x in
+      let room : 614 * r + 614 ≤ length b = inside b r h in
+      let read : callAt (sets b (614 * r) w) (614 * r) ≡ portOf (recordAt (rowIn b) r) x =
+      call-same (sets b (614 * r) w) w (614 * r) 0 (λ j l. stores.within w b (614 * r) j (omega (arith, l, long)) (omega (arith, room, long)) ∙ from-0 w j)
       ∙ as-port-of own-bytes (own-length h) x ∙ ap (λ (c : Call). portOf c x) (own-call h) in
-      row-changed b (sets b (102 * r) w) r h (length-sets b (102 * r) w) (λ j o. same w long j o) ∙ ap (set (rowIn b) r) read
+      row-changed b (sets b (614 * r) w) r h (length-sets b (614 * r) w) (λ j o. same w long j o) ∙ ap (set (rowIn b) r) read
     where
-      same : (w : List ℕ) → length w ≡ 102 → (j : ℕ) → Outside (102 * r) j → getD (sets b (102 * r) w) j 0 ≡ getD b j 0
-      same w long j (in-front l) = stores.before w b (102 * r) j l
-      same w long j (behind l) = stores.past w b (102 * r) j (omega (arith, l, long))
+      same : (w : List ℕ) → length w ≡ 614 → (j : ℕ) → Outside (614 * r) j → getD (sets b (614 * r) w) j 0 ≡ getD b j 0
+      same w long j (in-front l) = stores.before w b (614 * r) j l
+      same w long j (behind l) = stores.past w b (614 * r) j (omega (arith, l, long))
 
   as-lent : rowIn (bytesLent b r x) ≡ set (rowIn b) r (portOf (recordAt (rowIn b) r) x)
   as-lent = by (ltb r (recordsIn b)) refl
     where
-      by : (t : Bool) → ltb r (recordsIn b) ≡ t → rowIn (cond (ltb r (recordsIn b)) (sets b (102 * r) (portBytesOf own-bytes x)) b) ≡ set (rowIn b) r (portOf (recordAt (rowIn b) r) x)
+      by : (t : Bool) → ltb r (recordsIn b) ≡ t → rowIn (cond (ltb r (recordsIn b)) (sets b (614 * r) (portBytesOf own-bytes x)) b) ≡ set (rowIn b) r (portOf (recordAt (rowIn b) r) x)
       by true e = rw e (lent-row (ltb-true r (recordsIn b) e))
       by false e =
           let past : length (rowIn b) ≤ r = rw (row-length b) (ltb-false r (recordsIn b) e) in
@@ -127,7 +121,7 @@ as-rows b (operating x ∷ xs) = as-rows (bytesOf b x) xs ∙ ap (λ (l : List C
 as-rows b (lending r x ∷ xs) = as-rows (bytesLent b r x) xs ∙ ap (λ (l : List Call). used l xs) (as-lent b r x)
 as-rows b (clearing ∷ xs) = as-rows (clearedIn b) xs ∙ ap (λ (l : List Call). used l xs) (as-cleared b)
 
-port-cleared : (b : List ℕ) → length b ≡ 102 → callAt (clearedIn b) 0 ≡ cleared
+port-cleared : (b : List ℕ) → length b ≡ 614 → callAt (clearedIn b) 0 ≡ cleared
 port-cleared b long = one-left (clearedIn b) {row = cleared ∷ []} (cleared-length b ∙ long) (row-cleared b ∙ rw long refl)
 
 pub as-port : AsPort
@@ -135,17 +129,27 @@ as-port b long [] = refl
 as-port b long (operating-it x ∷ xs) = as-port (portBytesOf b x) (port-length b long x) xs ∙ ap (λ (c : Call). portUsed c xs) (as-port-of b long x)
 as-port b long (clearing-it ∷ xs) = as-port (clearedIn b) (cleared-length b ∙ long) xs ∙ ap (λ (c : Call). portUsed c xs) (port-cleared b long)
 
+-- ---- bytes that began cleared
+began : (b : List ℕ) (before : List Use) → rowIn (bytesUsed (clearedIn b) before) ≡ used (replicate (recordsIn b) cleared) before
+began b before = as-rows (clearedIn b) before ∙ ap (λ (l : List Call). used l before) (row-cleared b)
+
+began-port : (b : List ℕ) → length b ≡ 614 → (before : List PortUse) → callAt (portBytesUsed (clearedIn b) before) 0 ≡ portUsed cleared before
+began-port b long before = as-port (clearedIn b) (cleared-length b ∙ long) before ∙ ap (λ (c : Call). portUsed c before) (port-cleared b long)
+
 -- ---- 17 never
 pub bytes-never17 : BytesNever17
 bytes-never17 = record {
   in-row = λ b before x. subst (λ (l : List Call). numberFor l x ≢ 17) (sym (began b before)) (never17 .in-row (recordsIn b) before x);
   in-record = λ b before r x. subst (λ (l : List Call). portNumber (recordAt l r) x ≢ 17) (sym (began b before)) (never17 .in-record (recordsIn b) before r x);
-  in-port = λ b long before x.
-      subst (λ (c : Call). portNumber c x ≢ 17) (sym (as-port (clearedIn b) (cleared-length b ∙ long) before ∙ ap (λ (c : Call). portUsed c before) (port-cleared b long))) (port-never17 before x);
+  in-port = λ b long before x. subst (λ (c : Call). portNumber c x ≢ 17) (sym (began-port b long before)) (port-never17 before x);
 }
-  where
-    began : (b : List ℕ) (before : List Use) → rowIn (bytesUsed (clearedIn b) before) ≡ used (replicate (recordsIn b) cleared) before
-    began b before = as-rows (clearedIn b) before ∙ ap (λ (l : List Call). used l before) (row-cleared b)
+
+-- ---- nothing unfit
+pub bytes-fit : BytesFit
+bytes-fit = record {
+  in-row = λ b before r. subst (λ (l : List Call). HeadsFit (recordAt l r)) (sym (began b before)) (never-unfit .in-row (recordsIn b) before r);
+  in-port = λ b long before. subst HeadsFit (sym (began-port b long before)) (never-unfit .in-port before);
+}
 
 -- ---- a call in a row
 done-rows : (b : List ℕ) (xs : List Operation) → rowIn (bytesDone b xs) ≡ rowsOf (rowIn b) xs
@@ -191,8 +195,14 @@ bytes-demand3 b p s n m r u xs before k later h first =
     let closes = demand3InRow (rowIn b) r u (acts b p s n m r u xs) before k later (record { call-in = call-in b p s n m r u xs (before ++ k ∷ later) h; first = first }) in
     rw (by-acts b p s n m r u xs (h .answered)) (closes .closes, closes .moves-by-name)
 
+pub bytes-none-twice : BytesNoneTwice
+bytes-none-twice b p s n m r u xs ks h t = noneTwice (recordAt (rowIn b) r) ks t
+
+pub bytes-never-unfit : BytesNeverUnfit
+bytes-never-unfit b p s n m r u xs ks h = rw (bytes-reached b p s n m r u xs ks h) (neverUnfit (recordAt (rowIn b) r) ks)
+
 -- ---- a call in a port
-done-port : (b : List ℕ) → length b ≡ 102 → (xs : List PortOperation) → callAt (portBytesDone b xs) 0 ≡ portsOf (callAt b 0) xs
+done-port : (b : List ℕ) → length b ≡ 614 → (xs : List PortOperation) → callAt (portBytesDone b xs) 0 ≡ portsOf (callAt b 0) xs
 done-port b long [] = refl
 done-port b long (x ∷ xs) = done-port (portBytesOf b x) (port-length b long x) xs ∙ ap (λ (c : Call). portsOf c xs) (as-port-of b long x)
 
@@ -207,3 +217,9 @@ port-bytes-in-order b long xs ks h e = rw (done-port b long xs) (port-in-order (
 
 pub port-bytes-demand3 : PortBytesDemand3
 port-bytes-demand3 b long xs before k later h first = rw (done-port b long xs) (port-demand3 (callAt b 0) xs before k later h first)
+
+pub port-bytes-none-twice : PortBytesNoneTwice
+port-bytes-none-twice b long xs ks h t = noneTwice (callAt b 0) ks t
+
+pub port-bytes-never-unfit : PortBytesNeverUnfit
+port-bytes-never-unfit b long xs ks h = rw (port-bytes-reached b long xs ks h) (neverUnfit (callAt b 0) ks)

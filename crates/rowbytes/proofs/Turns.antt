@@ -1,6 +1,6 @@
 -- That what the code makes of one record's bytes is a turn of the row: a command, or a call placed. Assumes nothing.
 use mathlib.Core.Path.{_≡_, refl, sym, ap, subst, _∙_}
-use mathlib.Core.Bool.{Bool, true, false, cond, not}
+use mathlib.Core.Bool.{Bool, true, false, cond, _&&_}
 use mathlib.Core.List.{List, [], _∷_}
 use Prim.Native.Nat.{ℕ, _+_, _*_, _%_, _≤_, _<_}
 use native.Mathlib.Omega.{arith}
@@ -16,7 +16,7 @@ use Rattle.routing.specs.declared.Callee.{Callee}
 use Rattle.routing.specs.declared.Outcome.{Outcome}
 use Rattle.routing.specs.declared.Outcome.the-variants as outcome
 use Rattle.routing.specs.declared.Later.{Later}
-use Rattle.routing.specs.declared.Later.the-variants.{Nothing, Refuse}
+use Rattle.routing.specs.declared.Later.the-variants.{Nothing, Refuse as refuse-later}
 use Rattle.routing.specs.declared.Answer.{Answer}
 use Rattle.routing.specs.Routing.{outcomeBy, answerBy}
 use Rattle.routing.proofs.Zoned.{answer-outcome}
@@ -34,7 +34,7 @@ use Rattle.call.specs.declared.Answer as said
 use Rattle.call.specs.declared.Answer.the-variants.{Refused}
 use Rattle.call.specs.Protocol.{actor, waiting, hands, verdict, step, isFree, nextUse}
 use Rattle.call.specs.History.{accepted}
-use Rattle.call.specs.Row.{Turn, says, command, place, placeAt, recordAt, lowestFree, refuses, put, turn, granted}
+use Rattle.call.specs.Row.{Turn, says, command, place, placeAt, recordAt, lowestFree, inUse, named, refuses, put, turn, granted}
 use Rattle.placing.specs.declared.Placed.{Placed}
 use Rattle.placing.specs.Rows.{laterBy, laterFor, outcomeInBy, answerInBy, turned, answered, placedInBy, rowAfterBy}
 use Rattle.placing.proofs.Settles.{routing-to, refusing-by, came-by, places}
@@ -42,7 +42,9 @@ use Rattle.recordbytes.specs.Records.{callAt}
 use Rattle.recordbytes.specs.Steps.{Stepped, outcomeAt, stepAt, commandAt}
 use Rattle.recordbytes.proofs.AsStep.{as-step, only-the-record}
 use Rattle.rowbytes.specs.Rows.{recordsIn, records, rowIn, commandedIn, placedBytes, placedBy}
-use Rattle.rowbytes.specs.Parts.{putPlaced}
+use Rattle.rowbytes.specs.Parts.{foundIn, commandedBy, putPlaced}
+use Rattle.rowbytes.specs.declared.Found.{Found}
+use Rattle.rowbytes.specs.declared.Found.the-variants.{Refuse, At}
 use Rattle.rowbytes.proofs.Rows.{row-length, inside, record-in, row-changed, row-placed-in, put-in}
 
 -- ---- a command
@@ -66,22 +68,30 @@ kept-by b at k = by (verdict (callAt b at) k)
 
 module _ (b : List ℕ) (r : ℕ) (k : Command) (in-row : r < recordsIn b) where
   abbrev it : Stepped
-  it = stepAt b (102 * r) k
+  it = stepAt b (614 * r) k
 
-  here : callAt b (102 * r) ≡ recordAt (rowIn b) r
+  here : callAt b (614 * r) ≡ recordAt (rowIn b) r
   here = record-in b r in-row
 
   pub answer-read : it .answer ≡ step (recordAt (rowIn b) r) k .answer
-  answer-read = as-step b (102 * r) k (inside b r in-row) .0 ∙ ap (λ (c : Call). step c k .answer) here
+  answer-read = as-step b (614 * r) k (inside b r in-row) .0 ∙ ap (λ (c : Call). step c k .answer) here
 
   -- the row afterwards, accepted or not
   pub row-stepped : rowIn (it .bytes) ≡ set (rowIn b) r (step (recordAt (rowIn b) r) k .call)
   row-stepped =
-      let only = only-the-record b (102 * r) k (inside b r in-row) in
-      row-changed b (it .bytes) r in-row (only .0) (only .1) ∙ ap (set (rowIn b) r) (as-step b (102 * r) k (inside b r in-row) .1 ∙ ap (λ (c : Call). step c k .call) here)
+      let only = only-the-record b (614 * r) k (inside b r in-row) in
+      row-changed b (it .bytes) r in-row (only .0) (only .1) ∙ ap (set (rowIn b) r) (as-step b (614 * r) k (inside b r in-row) .1 ∙ ap (λ (c : Call). step c k .call) here)
 
   pub row-granted : rowIn (cond (accepted (step (recordAt (rowIn b) r) k .answer)) (it .bytes) b) ≡ set (rowIn b) r (step (recordAt (rowIn b) r) k .call)
-  row-granted = ap rowIn (sym (kept-by b (102 * r) k ∙ ap (λ (y : Bool). cond y (it .bytes) b) (ap accepted answer-read))) ∙ row-stepped
+  row-granted = ap rowIn (sym (kept-by b (614 * r) k ∙ ap (λ (y : Bool). cond y (it .bytes) b) (ap accepted answer-read))) ∙ row-stepped
+
+-- a record that a command names is within the row
+pub named-inside : (b : List ℕ) (r u : ℕ) → named (rowIn b) r u ≡ true → r < recordsIn b
+named-inside b r u e = by (ltb r (length (rowIn b))) refl e
+  where
+    by : (t : Bool) → ltb r (length (rowIn b)) ≡ t → (t && inUse (recordAt (rowIn b) r) u) ≡ true → r < recordsIn b
+    by true f h = subst (λ (n : ℕ). r < n) (row-length b) (ltb-true r (length (rowIn b)) f)
+    by false f h = absurd (clash h refl)
 
 -- what the code makes of the row is the turn that the command is
 module _ (b : List ℕ) (r u : ℕ) (k : Command) where
@@ -94,52 +104,77 @@ module _ (b : List ℕ) (r u : ℕ) (k : Command) where
   refused-by : (x : Refusal) → t ≡ refuses x (rowIn b) → Turns (Refused x) b
   refused-by x e = (ap (λ (y : Turn). y .reply) (sym e), rw e refl, ap (λ (y : Turn). y .row) (sym e))
 
-  pub too-long : 1024 < recordsIn b → Turns (Refused RowTooLong) b
-  too-long h = refused-by RowTooLong (rw (row-length b, lt-ltb 1024 (recordsIn b) h) refl)
+  -- the record that a command finds, and what it does there
+  abbrev f : Found
+  f = foundIn true b r u
+
+  found-turns : Turns (commandedBy f b k .answer) (commandedBy f b k .bytes)
+  found-turns = by (ltb 1024 (recordsIn b)) refl (named (rowIn b) r u) refl
+    where
+      found-as : (y : Found) → f ≡ y → Turns (commandedBy y b k .answer) (commandedBy y b k .bytes) → Turns (commandedBy f b k .answer) (commandedBy f b k .bytes)
+      found-as y e h = subst (λ (y : Found). Turns (commandedBy y b k .answer) (commandedBy y b k .bytes)) (sym e) h
+
+      by : (long : Bool) → ltb 1024 (recordsIn b) ≡ long → (there : Bool) → named (rowIn b) r u ≡ there → Turns (commandedBy f b k .answer) (commandedBy f b k .bytes)
+      by true e there g = found-as (Refuse RowTooLong) (rw e refl) (refused-by RowTooLong (rw (row-length b, e) refl))
+      by false e false g = found-as (Refuse NoSuchCall) (rw (e, g) refl) (refused-by NoSuchCall (rw (g, row-length b, e) refl))
+      by false e true g =
+          let in-row : r < recordsIn b = named-inside b r u g in
+          let so : t ≡ put (rowIn b) r (step (recordAt (rowIn b) r) k) = rw (g, row-length b, e) refl in
+          let whole : commandAt b (614 * r) k ≡ stepAt b (614 * r) k = rw (le-leb (614 * r + 614) (length b) (inside b r in-row)) refl in
+          let answer : commandAt b (614 * r) k .answer ≡ step (recordAt (rowIn b) r) k .answer = ap (λ (y : Stepped). y .answer) whole ∙ answer-read b r k in-row in
+          let bytes : commandAt b (614 * r) k .bytes ≡ stepAt b (614 * r) k .bytes = ap (λ (y : Stepped). y .bytes) whole in
+          found-as (At (614 * r)) (rw (e, g) refl) (
+            ap says answer ∙ ap (λ (y : Turn). y .reply) (sym so),
+            bytes ∙ kept-by b (614 * r) k ∙ ap (λ (y : Bool). cond y (stepAt b (614 * r) k .bytes) b) (ap accepted (answer-read b r k in-row) ∙ ap (λ (y : Turn). granted (y .reply)) (sym so)),
+            ap rowIn bytes ∙ row-stepped b r k in-row ∙ ap (λ (y : Turn). y .row) (sym so),
+          )
+
+  pub turns-as : {x : said.Answer} {z : List ℕ} → x ≡ commandedBy f b k .answer → z ≡ commandedBy f b k .bytes → Turns x z
+  turns-as ex ez = rw (ex, ez) found-turns
+
+-- what the tests of the code find
+module _ (b : List ℕ) (r u : ℕ) where
+  pub too-long : 1024 < recordsIn b → Refuse RowTooLong ≡ foundIn true b r u
+  too-long h = rw (lt-ltb 1024 (recordsIn b) h) refl
 
   module _ (few : recordsIn b ≤ 1024) where
-    pub past-row : recordsIn b ≤ r → Turns (Refused NoSuchCall) b
-    past-row h = refused-by NoSuchCall (rw (row-length b, le-ltb 1024 (recordsIn b) few, le-ltb r (recordsIn b) h) refl)
+    not-named : named (rowIn b) r u ≡ false → Refuse NoSuchCall ≡ foundIn true b r u
+    not-named e = rw (le-ltb 1024 (recordsIn b) few, e) refl
+
+    pub past-row : recordsIn b ≤ r → Refuse NoSuchCall ≡ foundIn true b r u
+    past-row h = not-named (rw (row-length b, le-ltb r (recordsIn b) h) refl)
 
     module _ (in-row : r < recordsIn b) where
-      pub free-record : isFree (callAt b (102 * r)) ≡ true → Turns (Refused NoSuchCall) b
+      pub free-record : isFree (callAt b (614 * r)) ≡ true → Refuse NoSuchCall ≡ foundIn true b r u
       free-record e =
           let free : isFree (recordAt (rowIn b) r) ≡ true = ap isFree (sym (record-in b r in-row)) ∙ e in
-          refused-by NoSuchCall (rw (row-length b, le-ltb 1024 (recordsIn b) few, lt-ltb r (recordsIn b) in-row, free) refl)
+          not-named (rw (row-length b, lt-ltb r (recordsIn b) in-row, free) refl)
 
-      module _ (taken : isFree (callAt b (102 * r)) ≡ false) {n : ℕ} (en : n ≡ recordAt (rowIn b) r .«use_number») where
+      module _ (taken : isFree (callAt b (614 * r)) ≡ false) {n : ℕ} (en : n ≡ recordAt (rowIn b) r .«use_number») where
         is-taken : isFree (recordAt (rowIn b) r) ≡ false
         is-taken = ap isFree (sym (record-in b r in-row)) ∙ taken
 
-        pub other-use : eqb n u ≡ false → Turns (Refused NoSuchCall) b
+        pub other-use : eqb n u ≡ false → Refuse NoSuchCall ≡ foundIn true b r u
         other-use e =
             let differs : eqb (recordAt (rowIn b) r .«use_number») u ≡ false = ap (λ (x : ℕ). eqb x u) (sym en) ∙ e in
-            refused-by NoSuchCall (rw (row-length b, le-ltb 1024 (recordsIn b) few, lt-ltb r (recordsIn b) in-row, is-taken, differs) refl)
+            not-named (rw (row-length b, lt-ltb r (recordsIn b) in-row, is-taken, differs) refl)
 
-        pub stepped-in : eqb n u ≡ true → {x : said.Answer} {z : List ℕ} → x ≡ commandAt b (102 * r) k .answer → z ≡ commandAt b (102 * r) k .bytes → Turns x z
-        stepped-in e {x} {z} ex ez =
+        pub found-there : eqb n u ≡ true → At (614 * r) ≡ foundIn true b r u
+        found-there e =
             let same : eqb (recordAt (rowIn b) r .«use_number») u ≡ true = ap (λ (y : ℕ). eqb y u) (sym en) ∙ e in
-            let so : t ≡ put (rowIn b) r (step (recordAt (rowIn b) r) k) = rw (row-length b, le-ltb 1024 (recordsIn b) few, lt-ltb r (recordsIn b) in-row, is-taken, same) refl in
-            let whole : commandAt b (102 * r) k ≡ stepAt b (102 * r) k = rw (le-leb (102 * r + 102) (length b) (inside b r in-row)) refl in
-            let answer : x ≡ step (recordAt (rowIn b) r) k .answer = ex ∙ ap (λ (y : Stepped). y .answer) whole ∙ answer-read b r k in-row in
-            let bytes : z ≡ stepAt b (102 * r) k .bytes = ez ∙ ap (λ (y : Stepped). y .bytes) whole in
-            let reply : says x ≡ t .reply = ap says answer ∙ ap (λ (y : Turn). y .reply) (sym so) in (
-              reply,
-              bytes ∙ kept-by b (102 * r) k ∙ ap (λ (y : Bool). cond y (stepAt b (102 * r) k .bytes) b) (ap accepted (answer-read b r k in-row) ∙ ap (λ (y : Turn). granted (y .reply)) (sym so)),
-              ap rowIn bytes ∙ row-stepped b r k in-row ∙ ap (λ (y : Turn). y .row) (sym so),
-            )
+            rw (le-ltb 1024 (recordsIn b) few, row-length b, lt-ltb r (recordsIn b) in-row, is-taken, same) refl
 
 -- ---- a call placed
 
 -- a row that refuses nothing by itself has a free record
 abbrev refusing : Later → Bool
 refusing Nothing = false
-refusing (Refuse x) = true
+refusing (refuse-later x) = true
 
 free-there : (row : List Call) → laterFor row ≡ Nothing → lowestFree row < length row
 free-there row none = by (ltb 1024 (length row)) (ltb (lowestFree row) (length row)) refl none
   where
-    by : (long free : Bool) → ltb (lowestFree row) (length row) ≡ free → cond long (Refuse RowTooLong) (cond free Nothing (Refuse NoFreeRecord)) ≡ Nothing → lowestFree row < length row
+    by : (long free : Bool) → ltb (lowestFree row) (length row) ≡ free → cond long (refuse-later RowTooLong) (cond free Nothing (refuse-later NoFreeRecord)) ≡ Nothing → lowestFree row < length row
     by long true e h = ltb-true (lowestFree row) (length row) e
     by true false e h = absurd (clash refl (ap refusing h))
     by false false e h = absurd (clash refl (ap refusing h))
@@ -215,20 +250,20 @@ module _ (kept : Bool) (b : List ℕ) (p : Plan) (x : Setup) (n m : ℕ) {r : �
 
 -- ---- a port is a row of one
 
-pub one-record : (b : List ℕ) → length b ≡ 102 → rowIn b ≡ callAt b 0 ∷ []
+pub one-record : (b : List ℕ) → length b ≡ 614 → rowIn b ≡ callAt b 0 ∷ []
 unfolding rowIn records
 one-record b long = rw long refl
 
-module _ (b : List ℕ) (k : Command) (long : length b ≡ 102) where
+module _ (b : List ℕ) (k : Command) (long : length b ≡ 614) where
   pub port-stepped : {x : said.Answer} {z : List ℕ} → x ≡ commandAt b 0 k .answer → z ≡ commandAt b 0 k .bytes
       → (x ≡ step (callAt b 0) k .answer) × (z ≡ stepAt b 0 k .bytes) × (callAt z 0 ≡ step (callAt b 0) k .call)
   port-stepped ex ez =
-      let room : 0 + 102 ≤ length b = omega (arith, long) in
-      let whole : commandAt b 0 k ≡ stepAt b 0 k = rw (le-leb (0 + 102) (length b) room) refl in
+      let room : 0 + 614 ≤ length b = omega (arith, long) in
+      let whole : commandAt b 0 k ≡ stepAt b 0 k = rw (le-leb (0 + 614) (length b) room) refl in
       let bytes = ez ∙ ap (λ (y : Stepped). y .bytes) whole in
       let read = as-step b 0 k room in
       (ex ∙ ap (λ (y : Stepped). y .answer) whole ∙ read .0, bytes, ap (λ (y : List ℕ). callAt y 0) bytes ∙ read .1)
 
 -- the record of the row of one that is left
-pub one-left : (z : List ℕ) {row : List Call} → length z ≡ 102 → rowIn z ≡ row → callAt z 0 ≡ recordAt row 0
+pub one-left : (z : List ℕ) {row : List Call} → length z ≡ 614 → rowIn z ≡ row → callAt z 0 ≡ recordAt row 0
 one-left z long e = ap (λ (l : List Call). recordAt l 0) (sym (one-record z long) ∙ e)

@@ -1,4 +1,4 @@
-// A row of calls, or a port's one, in lent bytes: 102 to a record, for programs in other languages (01 'Calls'). What a record does with a command is in `recordbytes`, and placing decides by its functions of values; here a
+// A row of calls, or a port's one, in lent bytes: 614 to a record, for programs in other languages (01 'Calls'). What a record does with a command is in `recordbytes`, and placing decides by its functions of values; here a
 // record is found, and a call placed in it. Nothing else is touched, and no refusal changes a byte.
 use call::Answer;
 use call::Command;
@@ -8,6 +8,7 @@ use refusal::Refusal;
 use routing::Outcome;
 use setup::Setup;
 ghost use mathlib.Core.Path.{_≡_};
+ghost use mathlib.Core.Bool.{true};
 ghost use mathlib.Core.List.{[], _∷_};
 ghost use Prim.Native.Nat.{_+_, _<_, _≤_};
 ghost use lib.ListN.{length, replicate};
@@ -23,13 +24,13 @@ ghost use Rattle.placing.specs.Rows.{outcomeInBy, placedInBy, rowAfterBy, turne
 ghost use Rattle.recordbytes.specs.Records.{callAt};
 ghost use Rattle.recordbytes.specs.Steps.{stepAt};
 ghost use Rattle.rowbytes.specs.Rows.{recordsIn, rowIn, clearedIn, commandedIn, placedBy};
-ghost use Rattle.rowbytes.specs.Parts.{putPlaced};
+ghost use Rattle.rowbytes.specs.Parts.{foundIn, commandedBy, putPlaced};
 
 // ---- a record of the row
 
 // Whether the record at a place within the row is free, by its two states alone.
 fn free_in(row: &[u8], at: usize) -> bool
-    requires { ⌜ at + 102 ≤ length (now row) ⌝ }
+    requires { ⌜ at + 614 ≤ length (now row) ⌝ }
     ensures { λ r. ⌜ r ≡ isFree (callAt (now (row .entry)) at) ⌝ }
 {
     if row[at] != 0 {
@@ -42,10 +43,10 @@ fn free_in(row: &[u8], at: usize) -> bool
 pub fn lowest_free(row: &[u8]) -> usize
     ensures { λ r. ⌜ r ≡ lowestFree (rowIn (now (row .entry))) ⌝ }
 {
-    let n = row.len() / 102;
+    let n = row.len() / 614;
     let mut i: usize = 0;
     while i < n {
-        if free_in(row, 102 * i) {
+        if free_in(row, 614 * i) {
             return i;
         }
         i += 1;
@@ -63,8 +64,8 @@ fn wide(b: u8) -> u16
 fn use_at(row: &[u8], r: usize) -> u16
     ensures { λ u. ⌜ u ≡ recordAt (rowIn (now (row .entry))) r .«use_number» ⌝ }
 {
-    if r < row.len() / 102 {
-        let at = 102 * r;
+    if r < row.len() / 614 {
+        let at = 614 * r;
         wide(row[at + 2]) * 256 + wide(row[at + 3])
     } else {
         0
@@ -77,7 +78,7 @@ fn use_at(row: &[u8], r: usize) -> u16
 pub fn clear(row: &mut [u8])
     ensures { λ _. ⌜ (now (row .exit) ≡ clearedIn (now (row .entry))) × (rowIn (now (row .exit)) ≡ replicate (recordsIn (now (row .entry))) cleared) ⌝ }
 {
-    let end = row.len() / 102 * 102;
+    let end = row.len() / 614 * 614;
     let mut i: usize = 0;
     while i < end {
         row[i] = 0;
@@ -87,37 +88,71 @@ pub fn clear(row: &mut [u8])
 
 // ---- commands
 
+// Where the record of a command stands, or why there is none.
+enum Found {
+    Refuse(Refusal),
+    At(usize),
+}
+
+// The record r, where it is not free and of this use: 16, 10.
+fn found_named(row: &[u8], r: usize, use_number: u16) -> Found
+    ensures { λ f. ⌜ f ≡ foundIn true (now (row .entry)) r «use_number» ⌝ }
+{
+    let n = row.len() / 614;
+    if 1024 < n {
+        return Found::Refuse(Refusal::RowTooLong);
+    }
+    if n <= r {
+        return Found::Refuse(Refusal::NoSuchCall);
+    }
+    let at = 614 * r;
+    if free_in(row, at) {
+        return Found::Refuse(Refusal::NoSuchCall);
+    }
+    if use_at(row, r) != use_number {
+        return Found::Refuse(Refusal::NoSuchCall);
+    }
+    Found::At(at)
+}
+
+fn look(row: &[u8], named: bool, r: usize, use_number: u16) -> Found
+    ensures { λ f. ⌜ f ≡ foundIn named (now (row .entry)) r «use_number» ⌝ }
+{
+    if named {
+        return found_named(row, r, use_number);
+    }
+    Found::At(0)
+}
+
+// A command for the record r and this use number; or, where it is not `named`, for a port's record, which is the first. Rows and ports share this function, so that the compiler puts all of a command into one.
+pub fn command_for(named: bool, row: &mut [u8], r: usize, use_number: u16, k: Command) -> Answer
+    ensures { λ z. ⌜ (z ≡ commandedBy (foundIn named (now (row .entry)) r «use_number») (now (row .entry)) k .answer)
+        × (now (row .exit) ≡ commandedBy (foundIn named (now (row .entry)) r «use_number») (now (row .entry)) k .bytes) ⌝ }
+{
+    let f = look(row, named, r, use_number);
+    match f {
+        Found::Refuse(x) => Answer::Refused(x),
+        Found::At(at) => recordbytes::command_at(row, at, k),
+    }
+}
+
 // A command for the record r and this use number.
 pub fn command(row: &mut [u8], r: usize, use_number: u16, k: Command) -> Answer
     ensures { λ z. ⌜ (says z ≡ turn (rowIn (now (row .entry))) (by-command r «use_number» k) .reply)
         × (now (row .exit) ≡ commandedIn (now (row .entry)) r «use_number» k)
         × (rowIn (now (row .exit)) ≡ turn (rowIn (now (row .entry))) (by-command r «use_number» k) .row) ⌝ }
 {
-    let n = row.len() / 102;
-    if 1024 < n {
-        return Answer::Refused(Refusal::RowTooLong);
-    }
-    if n <= r {
-        return Answer::Refused(Refusal::NoSuchCall);
-    }
-    let at = 102 * r;
-    if free_in(row, at) {
-        return Answer::Refused(Refusal::NoSuchCall);
-    }
-    if use_at(row, r) != use_number {
-        return Answer::Refused(Refusal::NoSuchCall);
-    }
-    recordbytes::command_at(row, at, k)
+    command_for(true, row, r, use_number, k)
 }
 
 // ---- placing
 
 fn blank(row: &mut [u8], at: usize)
-    requires { ⌜ at + 102 ≤ length (now row) ⌝ }
-    ensures { λ _. ⌜ now (row .exit) ≡ sets (now (row .entry)) at (replicate 102 0) ⌝ }
+    requires { ⌜ at + 614 ≤ length (now row) ⌝ }
+    ensures { λ _. ⌜ now (row .exit) ≡ sets (now (row .entry)) at (replicate 614 0) ⌝ }
 {
     let mut i: usize = 0;
-    while i < 102 {
+    while i < 614 {
         row[at + i] = 0;
         i += 1;
     }
@@ -127,8 +162,8 @@ fn blank(row: &mut [u8], at: usize)
 fn put_placed(row: &mut [u8], r: usize, use_number: u16)
     ensures { λ _. ⌜ now (row .exit) ≡ putPlaced (now (row .entry)) r «use_number» ⌝ }
 {
-    if r < row.len() / 102 {
-        let at = 102 * r;
+    if r < row.len() / 614 {
+        let at = 614 * r;
         blank(row, at);
         row[at] = 1;
         row[at + 1] = 2;
@@ -155,7 +190,7 @@ pub fn place(
         × (now («target_list» .exit) ≡ targetList p out (outcomeInBy kept (rowIn (now (row .entry))) p out (length (now («source_list» .entry))) (length (now («target_list» .entry)))) (now («target_list» .entry)))) ⌝ }
     ensures unchanged { λ z. ⌜ KeptBeside (z .routed .outcome) (now (row .entry)) (now (row .exit)) × KeptBeside (z .routed .outcome) (now («source_list» .entry)) (now («source_list» .exit)) × KeptBeside (z .routed .outcome) (now («target_list» .entry)) (now («target_list» .exit)) ⌝ }
 {
-    let n = row.len() / 102;
+    let n = row.len() / 614;
     let r = lowest_free(row);
     let later = placing::later_for(n, r);
     let a = routing::route_seen(kept, v, out, later, source_list, target_list);
@@ -181,18 +216,18 @@ pub fn place(
 // ---- a port: a row of one
 
 // A command for the port's record.
-pub fn port_command(port: &mut [u8; 102], k: Command) -> Answer
+pub fn port_command(port: &mut [u8; 614], k: Command) -> Answer
     ensures { λ z. ⌜ (z ≡ step (callAt (now (port .entry)) 0) k .answer)
         × (now (port .exit) ≡ stepAt (now (port .entry)) 0 k .bytes)
         × (callAt (now (port .exit)) 0 ≡ step (callAt (now (port .entry)) 0) k .call) ⌝ }
 {
-    recordbytes::command_at(port, 0, k)
+    command_for(false, port, 0, 0, k)
 }
 
 // A call is placed in the port's record, as in a row of one, by what a plan shows and a verdict on it; of what no plan shows as in a row.
 pub fn port_place(
     kept: bool,
-    port: &mut [u8; 102],
+    port: &mut [u8; 614],
     v: Seen,
     out: Setup,
     source_list: &mut [u8],

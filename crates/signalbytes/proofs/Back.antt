@@ -2,7 +2,7 @@
 use mathlib.Core.Path.{_≡_, refl}
 use Rattle.ends.specs.declared.State.{State}
 use Rattle.ends.specs.declared.State.the-variants.{Idle, Requesting, Waiting, Linked, Unlinking}
-use Rattle.ends.specs.declared.Status.the-variants.{Unknown, Avail, Unavail, None, Dtmf, Special}
+use Rattle.ends.specs.declared.Status.the-variants.{Unknown, Avail, Unavail, None, Dtmf, Special, Open, Oack, Onack, Ready, Close, Closeack}
 use Rattle.ends.specs.declared.Signal.{Signal}
 use Rattle.ends.specs.declared.Signal.the-variants.{Upack, Ordinary, Teardown, Downack}
 use Rattle.signalbytes.specs.Numbers.{stateNumber, signalNumber, signalTunnel, signalCode, stateSaid, signalSaid}
@@ -24,3 +24,9 @@ signal-back (Ordinary t Unavail) = refl
 signal-back (Ordinary t None) = refl
 signal-back (Ordinary t (Dtmf n)) = refl
 signal-back (Ordinary t (Special n)) = refl
+signal-back (Ordinary t Open) = refl
+signal-back (Ordinary t Oack) = refl
+signal-back (Ordinary t Onack) = refl
+signal-back (Ordinary t Ready) = refl
+signal-back (Ordinary t Close) = refl
+signal-back (Ordinary t Closeack) = refl

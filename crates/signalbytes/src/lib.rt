@@ -1,4 +1,4 @@
-// The numbers of an end's states and of the signals, for programs in other languages: those of a record's bytes, of commands and of logs. Any number is a state's and a signal's.
+// The numbers of an end's states and of the signals, for programs in other languages: those of a record's bytes, of commands and of logs. Any number is read back.
 ghost use mathlib.Core.Path.{_≡_};
 ghost use Rattle.signalbytes.specs.Numbers.{stateNumber, statusNumber, statusCode, signalNumber, signalTunnel, signalCode, stateSaid, statusSaid, signalSaid};
 use ends::Signal;
@@ -29,6 +29,12 @@ fn status_number(s: Status) -> u8
         Status::None => 6,
         Status::Dtmf(_) => 7,
         Status::Special(_) => 8,
+        Status::Open => 11,
+        Status::Oack => 12,
+        Status::Onack => 13,
+        Status::Ready => 14,
+        Status::Close => 15,
+        Status::Closeack => 16,
     }
 }
 
@@ -42,6 +48,12 @@ fn status_code(s: Status) -> u8
         Status::None => 0,
         Status::Dtmf(n) => n,
         Status::Special(n) => n,
+        Status::Open => 0,
+        Status::Oack => 0,
+        Status::Onack => 0,
+        Status::Ready => 0,
+        Status::Close => 0,
+        Status::Closeack => 0,
     }
 }
 
@@ -119,7 +131,25 @@ pub fn status_said(n: u8, code: u8) -> Status
         return Status::Dtmf(code);
     }
     if n == 8 {
-        Status::Special(code)
+        return Status::Special(code);
+    }
+    if n == 11 {
+        return Status::Open;
+    }
+    if n == 12 {
+        return Status::Oack;
+    }
+    if n == 13 {
+        return Status::Onack;
+    }
+    if n == 14 {
+        return Status::Ready;
+    }
+    if n == 15 {
+        return Status::Close;
+    }
+    if n == 16 {
+        Status::Closeack
     } else {
         Status::Dtmf(255)
     }

@@ -13,14 +13,18 @@ use native.Mathlib.Nat.{mod-add-mod}
 use Rattle.refusal.specs.declared.Refusal.the-variants.{NoSuchCall, NoFreeRecord, RowTooLong}
 use Rattle.call.specs.declared.Call.{Call}
 use Rattle.call.specs.declared.Command.{Command}
-use Rattle.call.specs.declared.Side.{Side}
-use Rattle.call.specs.declared.Side.the-variants.{Caller, Callee}
+use Rattle.ends.specs.declared.Side.{Side}
+use Rattle.ends.specs.declared.Side.the-variants.{Caller, Callee}
 use Rattle.call.specs.declared.Command.the-variants.{Accept, Busy, Unobtainable, Send, Teardown as Hang-up, Deliver}
-use Rattle.call.specs.Protocol.{isFree, step, numberIn, nextUse, placed, cleared}
+use Rattle.ends.specs.declared.Status.{Status}
+use Rattle.ends.specs.declared.Signal.{Signal}
+use Rattle.ends.specs.declared.Signal.the-variants.{Ordinary}
+use Rattle.ends.specs.Ends.{fits}
+use Rattle.call.specs.Protocol.{endOf, waiting, isFree, step, numberIn, nextUse, placed, cleared}
 use Rattle.call.specs.History.{allows, after}
 use Rattle.call.specs.Row.{Act, place, command, placed-at, says, Turn, recordAt, lowestFree, named, refuses, placeAt, put, turn, turns, numberOfReply, granted, Event, placing, doing, happen, lives, placesIn, ownOf, own, placings, useAfter}
-use Rattle.teardown.specs.Teardown.{ByItsOwn, AnswersOwn, PlacedLowest, Placing, ClearedRow, Came, still-free, by-placing, EachCame, Never17InRow, Reached, ReachedByName, NoDeadlockInRow, InOrderInRow, Demand3InRow, UseByPlacings, UsesComeRound}
-use Rattle.teardown.proofs.Theorem.{demand3, noDeadlock, inOrder, never17, endsIdle, refusedSame, keepsItsUse, after-use, and-left, and-right, is-true}
+use Rattle.teardown.specs.Teardown.{ByItsOwn, AnswersOwn, PlacedLowest, Placing, ClearedRow, Came, still-free, by-placing, EachCame, Never17InRow, NeverUnfitInRow, Reached, ReachedByName, NoDeadlockInRow, InOrderInRow, Demand3InRow, UseByPlacings, UsesComeRound}
+use Rattle.teardown.proofs.Theorem.{demand3, noDeadlock, inOrder, never17, neverUnfit, endsIdle, refusedSame, keepsItsUse, after-use, and-left, and-right, is-true}
 
 -- A ROW KEEPS ITS LENGTH
 pick-length : (n : ℕ) (b : Bool) (s t : Turn) → length (s .row) ≡ n → length (t .row) ≡ n → length (cond b s t .row) ≡ n
@@ -210,6 +214,19 @@ pub turn-not-17 : (row : List Call)
     → (a : Act) → numberOfReply (turn row a .reply) ≢ 17
 turn-not-17 row f place = place-not-17 row (ltb 1024 (length row)) (ltb (lowestFree row) (length row))
 turn-not-17 row f (command r n k) = command-not-17 row r n k (f r k) (ltb 1024 (length row)) (named row r n) refl
+
+unfit-not : {c z : Call} {xs : List Event} → T (isFree c) → Came c xs z → T (not (isFree z)) → (s : Side) (t : ℕ) (x : Status) (w : List Signal)
+    → waiting s z ≡ Ordinary t x ∷ w → fits s false t x (endOf s z .channels) ≡ true
+unfit-not {z = z} f (still-free ks e p) n s t x w q = absurd (T-not (isFree z) n (rw p f))
+unfit-not {c} f (by-placing ys ks e p) n s t x w q = rw p (neverUnfit (lives c ys) ks s t x w (rw p at q))
+
+-- of a record that began cleared
+pub lived-fit : (xs : List Event) → T (not (isFree (lives cleared xs))) → (s : Side) (t : ℕ) (x : Status) (w : List Signal)
+    → waiting s (lives cleared xs) ≡ Ordinary t x ∷ w → fits s false t x (endOf s (lives cleared xs) .channels) ≡ true
+lived-fit xs n s t x w q = unfit-not tt (came cleared xs tt (split xs)) n s t x w q
+
+pub neverUnfitInRow : NeverUnfitInRow
+neverUnfitInRow row f acts r h n s t x w q = unfit-not (f r h) (eachCame row f acts r h) n s t x w q
 
 pub never17InRow : Never17InRow
 never17InRow row f acts a =

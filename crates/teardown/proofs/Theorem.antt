@@ -17,15 +17,19 @@ use Rattle.call.specs.declared.Answer.{Answer}
 use Rattle.call.specs.declared.Answer.the-variants.{Accepted, Delivered, Refused}
 use Rattle.call.specs.declared.Queue.{Queue}
 use Rattle.call.specs.declared.Call.{Call}
-use Rattle.call.specs.declared.Side.{Side}
-use Rattle.call.specs.declared.Side.the-variants.{Caller, Callee}
+use Rattle.ends.specs.declared.Side.{Side}
+use Rattle.ends.specs.declared.Side.the-variants.{Caller, Callee}
 use Rattle.call.specs.declared.Command.{Command}
 use Rattle.call.specs.declared.Command.the-variants.{Accept, Busy, Unobtainable, Send, Teardown as Hang-up, Deliver}
 use Rattle.ends.specs.declared.Verdict.{Verdict}
 use Rattle.ends.specs.declared.Verdict.the-variants.{Refuse as refuse, Become as become}
-use Rattle.call.specs.Protocol.{actor, other, stateOf, queueTo, waiting, isIdle, isFree, to, decide, reply, sends, hands, fit, verdict, moved, outcome, step, placed}
+use Rattle.call.specs.Protocol.{actor, other, endOf, stateOf, queueTo, waiting, isIdle, isFree, within, decide, reply, sends, hands, fit, verdict, channelsBy, moved, outcome, step, placed}
 use Rattle.call.specs.History.{accepted, allows, sentWith, after, ifBy, sent, received, deliveries, tally, upack, ordinary, teardown, downack, sentOf, waitingOf, waitingBothWays}
-use Rattle.teardown.specs.Teardown.{Closes, Demand3, OfFour, accepting, tearing, to-caller, to-callee, NoDeadlock, EndsIdle, InOrder, Never17, Bounded, QueuesBounded, NothingElse, RefusedSame, KeepsItsUse}
+use Rattle.teardown.specs.Teardown.{Closes, Demand3, OfFour, accepting, tearing, to-caller, to-callee, NoDeadlock, EndsIdle, InOrder, Never17, NeverUnfit, Bounded, QueuesBounded, NothingElse, RefusedSame, KeepsItsUse}
+use Rattle.ends.specs.declared.Status.{Status}
+use Rattle.ends.specs.Ends.{fits}
+use Rattle.tunnels.proofs.Wires.{Wires, wires-unused}
+use Rattle.teardown.proofs.Fate.{SoundSignal, head-sound, passes}
 use Rattle.teardown.proofs.Slots.{Holds, holding, holds-none}
 use Rattle.teardown.proofs.Phase.{open-end, by-t, by-d, by-td, Shape, shut, rest, up, tears-in, downs-in, cap, none′, Flow, shut′, rest′, flow-counts, Phase, Stage, deliver-at}
 use Rattle.teardown.proofs.Phase.{asking, asked, upack-to-me, upack-to-them, early-to-me, early-to-them, linked, i-tear, they-tear, crossed, they-done, i-done}
@@ -144,20 +148,20 @@ not-full shut′ f = f
 not-full (rest′ none′) f = f
 
 -- a command whose verdict is no refusal is accepted
-goes : (c : Call) (k : Command) (e : End) → verdict c k ≡ become e → T (allows c k)
-goes c k e p = rw p (is-true (accepted (hands k (waiting (actor k) c))) (hands-accepted k (waiting (actor k) c) .0))
+goes : (c : Call) (k : Command) (st : State) → verdict c k ≡ become st → T (allows c k)
+goes c k st p = rw p (is-true (accepted (hands k (waiting (actor k) c))) (hands-accepted k (waiting (actor k) c) .0))
 
-ready : {e : Side} {a b : State} {w v : List Signal} {u tm dm ty dy : ℕ} (s : Stage e a b w v u tm dm ty dy) → Full (s .i)
-    → (a′ : State) × (fit (decide (Deliver e) a w (length v)) (length v + length (reply w)) ≡ to a′)
-ready {w = []} s f = absurd (not-full (s .come) f)
-ready {w = x ∷ w} s f =
+ready : {e : Side} {a b : State} {cs ds : List ℕ} {w v : List Signal} {u tm dm ty dy : ℕ} (s : Stage e a b w v u tm dm ty dy) → Wires e cs ds w v → Full (s .i)
+    → (a′ : State) × (fit (decide (Deliver e) (within a cs) w (length v)) (length v + length (reply w)) ≡ become a′)
+ready {w = []} s q f = absurd (not-full (s .come) f)
+ready {a = a} {cs = cs} {w = x ∷ w} s q f =
     let d = deliver-at (s .come) (s .phase) (s .go) (s .come-room) (s .go-room) in
-    (d .a′, rw (d .taken, le-leb _ _ (d .room)))
+    (d .a′, rw (d .taken cs (passes a x (head-sound (s .come)) q .0), le-leb _ _ (d .room)))
 
 full-allows : {c : Call} {u tm dm ty dy : ℕ} (e : Side) (g : Good e c u tm dm ty dy) → Full (g .stage .i) → T (allows c (Deliver e))
 full-allows {c} e g f =
-    let r = ready (g .stage) f in
-    goes c (Deliver e) (record { state = r .0 }) (verdict-is c (Deliver e) g ∙ r .1)
+    let r = ready (g .stage) (g .wires) f in
+    goes c (Deliver e) (r .0) (verdict-is c (Deliver e) g ∙ r .1)
 
 some-delivery : {c : Call} {u ta da tb db : ℕ} (g : Good Caller c u ta da tb db) → Moves (stateOf Caller c) (stateOf Callee c) (g .stage .i) (g .stage .o) (ta + tb)
     → 1 ≤ ta + tb → T (allows c (Deliver Caller) || allows c (Deliver Callee))
@@ -172,10 +176,10 @@ some-command g (to-me f) = (Deliver Caller, to-caller, full-allows Caller g f)
 some-command g (to-them f) = (Deliver Callee, to-callee, full-allows Callee (turn Caller g) f)
 some-command {c} g (may-answer p q z) =
     let w : waiting Caller c ≡ [] = shut-empty (rw q at (g .stage .come)) in
-    (Accept, accepting, goes c Accept (record { state = Linked }) (verdict-is c Accept (turn Caller g) ∙ rw (p, w)))
+    (Accept, accepting, goes c Accept Linked (verdict-is c Accept (turn Caller g) ∙ rw (p, w)))
 some-command {c} g (both-linked p q z) =
     let n : length (waiting Callee c) ≤ 14 = rw q at (g .stage .go-room) in
-    (Hang-up Caller, tearing, goes c (Hang-up Caller) (record { state = Unlinking }) (verdict-is c (Hang-up Caller) g ∙ rw (p, le-leb (length (waiting Callee c) + 1) 16 (omega arith))))
+    (Hang-up Caller, tearing, goes c (Hang-up Caller) Unlinking (verdict-is c (Hang-up Caller) g ∙ rw (p, le-leb (length (waiting Callee c) + 1) 16 (omega arith))))
 
 -- THE RECORD AS PLACED
 pub placed-good : (c : Call) → Good Caller (placed c) 0 0 0 0 0
@@ -184,6 +188,7 @@ placed-good c =
       come = holds-none;
       go = holds-none;
       stage = record { i = shut; o = shut; phase = asking; come = shut′; go = shut′; come-room = omega arith; go-room = omega arith };
+      wires = wires-unused Caller 256;
     }
 
 pub placed-ran : (c : Call) (ks : List Command) → Ran (placed c) ks 0 0 0 0 0
@@ -200,6 +205,15 @@ inOrder c ks Callee = placed-ran c ks .through Callee
 
 pub never17 : Never17
 never17 c ks k = stepped (after (placed c) ks) k (seen-by (actor k) (placed-ran c ks .good)) .not-17
+
+-- what waits first is fit for its channel
+head-fit : {s : Side} {z : Call} {u tm dm ty dy : ℕ} {t : ℕ} {x : Status} {w : List Signal} → Good s z u tm dm ty dy → waiting s z ≡ Ordinary t x ∷ w
+    → fits s false t x (endOf s z .channels) ≡ true
+head-fit {s} {z} {t = t} {x = x} g e =
+    passes (stateOf s z) (Ordinary t x) (head-sound (rw e at (g .stage .come))) (rw e at (g .wires)) .0
+
+pub neverUnfit : NeverUnfit
+neverUnfit c ks s t x w e = head-fit (seen-by s (placed-ran c ks .good)) e
 
 bounded : {s : Side} {z : Call} {i : Shape} → Flow (waiting s z) i → length (waiting s z) ≤ cap i → tears-in i ≤ 1 → downs-in i ≤ 1 → Bounded s z
 bounded {s} {z} f n t d =
@@ -230,9 +244,6 @@ queuesBounded c ks Callee =
     bounded (s .go) (s .go-room) (at-most-one (s .o) .0) (at-most-one (s .o) .1)
 
 -- NOTHING OF THE PAST STAYS
-same-end : {d e : End} → d .state ≡ e .state → d ≡ e
-same-end p = rw p
-
 same-call : {c d : Call} → c .caller ≡ d .caller → c .callee ≡ d .callee → c .«to_caller» ≡ d .«to_caller» → c .«to_callee» ≡ d .«to_callee»
     → c .«use_number» ≡ d .«use_number» → c ≡ d
 same-call p q r s t = rw (p, q, r, s, t)
@@ -241,27 +252,27 @@ same-queue : {q p : Queue} {w v : List Signal} → Holds q w → Holds p v → w
 same-queue h k e = h .is ∙ ap holding e ∙ sym (k .is)
 
 pub nothingElse : NothingElse
-nothingElse c d ks ls states waits uses =
+nothingElse c d ks ls ends waits uses =
     let g = placed-ran c ks .good in
     let h = placed-ran d ls .good in
-    same-call (same-end (states Caller)) (same-end (states Callee)) (same-queue (g .come) (h .come) (waits Caller)) (same-queue (g .go) (h .go) (waits Callee)) uses
+    same-call (ends Caller) (ends Callee) (same-queue (g .come) (h .come) (waits Caller)) (same-queue (g .go) (h .go) (waits Callee)) uses
 
 -- AN IDLE END DOES NOTHING
-idle-refuses : (c : Call) (k : Command) (w : List Signal) (n m : ℕ) (b : Bool) → T (not (accepted (outcome c k (cond b (fit (decide k Idle w n) m) (refuse BrokenRecord)) .answer)))
-idle-refuses c k w n m false = tt
-idle-refuses c Accept w n m true = tt
-idle-refuses c Busy w n m true = tt
-idle-refuses c Unobtainable w n m true = tt
-idle-refuses c (Send e t x) w n m true = tt
-idle-refuses c (Hang-up e) w n m true = tt
-idle-refuses c (Deliver e) [] n m true = tt
-idle-refuses c (Deliver e) (x ∷ w) n m true = tt
+idle-refuses : (c : Call) (k : Command) (e : End) (w : List Signal) (n m : ℕ) (b : Bool) → e .state ≡ Idle
+    → T (not (accepted (outcome c k (cond b (fit (decide k e w n) m) (refuse BrokenRecord)) .answer)))
+idle-refuses c k e w n m false p = tt
+idle-refuses c Accept e w n m true p = rw p tt
+idle-refuses c Busy e w n m true p = rw p tt
+idle-refuses c Unobtainable e w n m true p = rw p tt
+idle-refuses c (Send s t x) e w n m true p = rw p tt
+idle-refuses c (Hang-up s) e w n m true p = rw p tt
+idle-refuses c (Deliver s) e [] n m true p = tt
+idle-refuses c (Deliver s) e (x ∷ w) n m true p = rw p tt
 
 pub endsIdle : EndsIdle
 endsIdle c k t =
-    rw (idle-end (actor k) c t)
-    (idle-refuses c k (waiting (actor k) c) (queueTo (other (actor k)) c .count) (queueTo (other (actor k)) c .count + length (sends k (waiting (actor k) c)))
-    (leb (c .«to_caller» .count) 16 && leb (c .«to_callee» .count) 16))
+    idle-refuses c k (endOf (actor k) c) (waiting (actor k) c) (queueTo (other (actor k)) c .count) (queueTo (other (actor k)) c .count + length (sends k (waiting (actor k) c)))
+    (leb (c .«to_caller» .count) 16 && leb (c .«to_callee» .count) 16) (idle-end (actor k) c t)
 
 refused-as : (c : Call) (k : Command) (v : Verdict) → T (not (accepted (outcome c k v .answer))) → outcome c k v .call ≡ c
 refused-as c k (refuse r) n = refl
@@ -277,7 +288,7 @@ moved-use Callee e i o c = refl
 
 use-as : (c : Call) (k : Command) (v : Verdict) → outcome c k v .call .«use_number» ≡ c .«use_number»
 use-as c k (refuse r) = refl
-use-as c k (become e) = moved-use (actor k) e _ _ c
+use-as c k (become st) = moved-use (actor k) (within st (channelsBy k (waiting (actor k) c) (endOf (actor k) c .channels))) _ _ c
 
 pub keepsItsUse : KeepsItsUse
 keepsItsUse c k = use-as c k (verdict c k)

@@ -1,2 +1,4 @@
 pub mod Teardown
 pub mod Plays
+pub mod ChannelPlays
+pub mod Media

@@ -11,11 +11,11 @@ use Rattle.ends.specs.declared.Signal.{Signal}
 use Rattle.ends.specs.declared.Signal.the-variants.{Upack, Ordinary, Teardown, Downack}
 use Rattle.call.specs.declared.Queue.{Queue}
 use Rattle.call.specs.declared.Call.{Call}
-use Rattle.call.specs.declared.Side.{Side}
-use Rattle.call.specs.declared.Side.the-variants.{Caller, Callee}
+use Rattle.ends.specs.declared.Side.{Side}
+use Rattle.ends.specs.declared.Side.the-variants.{Caller, Callee}
 use Rattle.call.specs.declared.Command.{Command}
 use Rattle.call.specs.declared.Command.the-variants.{Accept, Busy, Unobtainable, Send, Teardown as Hang-up, Deliver}
-use Rattle.call.specs.Protocol.{other, stateOf, waiting as waits, isFree, isOrdinary, step, numberIn, placed, cleared}
+use Rattle.call.specs.Protocol.{other, stateOf, waiting as waits, within, allUnused, isFree, isOrdinary, step, numberIn, placed, cleared}
 use Rattle.call.specs.History.{allows, after, deliveries as since, waitingBothWays}
 use Rattle.call.specs.Row.{place, command, turn, turns, numberOfReply}
 use Rattle.teardown.specs.Teardown.{FirstTeardown, FirstTeardownIn}
@@ -145,14 +145,14 @@ limit-with-upack = refl
 
 -- THE TABLES OF docs/CALLS.md
 -- a record of any kind: the ends' states, the counts, and the signal in every slot of each queue
-abbrev filledWith : Signal → ℕ → Queue
+abbrev pub filledWith : Signal → ℕ → Queue
 filledWith x n = record { slots = replicate 16 (record { signal = x }); count = n }
 
-abbrev made : State → State → ℕ → ℕ → Signal → Signal → Call
+abbrev pub made : State → State → ℕ → ℕ → Signal → Signal → Call
 made a b n m x y =
     record {
-      caller = record { state = a };
-      callee = record { state = b };
+      caller = within a allUnused;
+      callee = within b allUnused;
       «to_caller» = filledWith x n;
       «to_callee» = filledWith y m;
       «use_number» = 1;

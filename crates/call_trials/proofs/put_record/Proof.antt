@@ -7,10 +7,10 @@ use Rattle.call_trials.proofs.put_record.Statement.{statement}
 use Rattle.call_trials.proofs.put_record.Tie as tie
 
 abbrev Inv-loop : tie.InvT-loop
-Inv-loop row₀ r bytes at j₀ row j = (j ≤ 102) × (length row ≡ length row₀)
+Inv-loop row₀ r bytes at j₀ row j = (j ≤ 614) × (length row ≡ length row₀)
 
 abbrev μ-loop : tie.MeasureT-loop
-μ-loop row₀ r bytes at j₀ row j = 102 - j
+μ-loop row₀ r bytes at j₀ row j = 614 - j
 
 pub put-record-spec : {M : Type 1} → statement M
 put-record-spec =

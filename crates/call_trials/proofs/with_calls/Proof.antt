@@ -7,7 +7,7 @@ use Rattle.call_trials.proofs.with_calls.Statement.{statement}
 use Rattle.call_trials.proofs.with_calls.Tie as tie
 
 abbrev Inv-loop : tie.InvT-loop
-Inv-loop s calls row₀ i₀ row i = (i ≤ 4) × (length row ≡ 408)
+Inv-loop s calls row₀ i₀ row i = (i ≤ 4) × (length row ≡ 2456)
 
 abbrev μ-loop : tie.MeasureT-loop
 μ-loop s calls row₀ i₀ row i = 4 - i

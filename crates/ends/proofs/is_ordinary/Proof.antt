@@ -22,13 +22,16 @@ returns-5 c = rw (c .before .before .status .given .1, lt-ltb 0 (c .before .befo
 returns-6 : tie.Need-returns-6
 returns-6 c = rw (c .before .before .status .given .1, le-ltb 0 (c .before .before .before .before .args .tunnel) (c .if1 .left))
 
-returns-7 : tie.Need-returns-7
-returns-7 c = rw (c .enum-told5 .given .1)
-
 pub is-ordinary-spec : {M : Type 1} → statement M
 is-ordinary-spec =
     tie.close
     (tie.spec
+    (λ c. search needs)
+    (λ c. search needs)
+    (λ c. search needs)
+    (λ c. search needs)
+    (λ c. search needs)
+    (λ c. search needs)
     (λ c. search needs)
     (λ c. search needs)
     (λ c. search needs)
@@ -41,4 +44,10 @@ is-ordinary-spec =
     returns-4
     returns-5
     returns-6
-    returns-7)
+    (λ c. search needs)
+    (λ c. search needs)
+    (λ c. search needs)
+    (λ c. search needs)
+    (λ c. search needs)
+    (λ c. search needs)
+    (λ c. search needs))

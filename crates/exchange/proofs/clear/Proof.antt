@@ -113,7 +113,7 @@ module _ {M : Type 1} (𝓤 : URA M) (H : Heap 𝓤) (A : Atoms 𝓤) (W : Given
         let j : Upto = next i l in
         skips-on ! $ assigns ! (bin ! (load ! (from ! (stop !)) (look ! 9 refl)) (lit ! tt) (record { fits = omega (arith, room .1) })) (from ! (stop !)) (store ! 7 refl (tt, record { fits = omega (arith, room .1) })) $
         assigns ! (bin ! (load ! (from ! (fld ! refl (stop !))) (look-in ! 13 (sub ! 0 refl (whole !)))) (load ! (from ! (stop !)) (look ! 7 refl)) tt) (from ! (stop !)) (init ! 3 refl (tt, tt)) $
-        rewrite ! 3 (λ (p : ℕ). ‵ (fat fullShare tyPtr l₆ 0 (vptr b p))) (sym (place-is 134 o (i .0))) refl $
+        rewrite ! 3 (λ (p : ℕ). ‵ (fat fullShare tyPtr l₆ 0 (vptr b p))) (sym (place-is 646 o (i .0))) refl $
         opens-elem ! tt T.the-row call (i .1) (i .0) cleared b o l′ (λ is.
         -- [row[i]; the others; the open borrow; obs; auth; _6; …; …]
         assigns ! (of-opd ! (load ! (from ! (stop !)) (look ! 13 refl))) (from ! (hop ! (look ! 5 refl) (stop !))) (store-raw ! 0 refl (typed call W cleared clear-ok .0)) $

@@ -70,7 +70,7 @@ module _ {M : Type 1} (𝓤 : URA M) (H : Heap 𝓤) (A : Atoms 𝓤) (W : Given
         (λ y. let l : i < length ys = ltb→lt i (length ys) y in
         regroup ! $ assigns ! (bin ! (load ! (from ! (stop !)) (look ! 14 refl)) (lit ! tt) (record { fits = omega (arith, room .1) })) (from ! (stop !)) (init ! 6 refl (tt, record { fits = omega (arith, room .1) })) $
         regroup ! $ assigns ! (bin ! (load ! (from ! (fld ! refl (stop !))) (look-in ! 16 (sub ! 0 refl (whole !)))) (load ! (from ! (stop !)) (look ! 6 refl)) tt) (from ! (stop !)) (init ! 4 refl (tt, tt)) $
-        rewrite ! 4 (λ (p : ℕ). ‵ (fat fullShare tyPtr l₇ 0 (vptr b p))) (sym (place-is 134 o i)) refl $
+        rewrite ! 4 (λ (p : ℕ). ‵ (fat fullShare tyPtr l₇ 0 (vptr b p))) (sym (place-is 646 o i)) refl $
         move ! (22 ∷ 20 ∷ []) $ looks-elem ! tt T.the-row call ys i cleared b o l (λ q′ is.
         -- [row[i]; the others; the open borrow; the borrow; _9; …; _8; …; _7; …; …; res]
         regroup ! $ assigns ! (of-opd ! (load ! (from ! (hop ! (look ! 8 refl) (stop !))) (look-raw ! 0 refl))) (from ! (stop !)) (init ! 6 refl (typed call W (recordAt ys i) is .0)) $

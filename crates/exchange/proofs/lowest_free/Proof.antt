@@ -115,7 +115,7 @@ module _ {M : Type 1} (𝓤 : URA M) (H : Heap 𝓤) (A : Atoms 𝓤) (W : Given
         (λ y. let l : i .0 < length ys = ltb→lt (i .0) (length ys) y in
         skips-on ! $ assigns ! (bin ! (load ! (from ! (stop !)) (look ! 13 refl)) (lit ! tt) (record { fits = omega (arith, room .1) })) (from ! (stop !)) (store ! 11 refl (tt, record { fits = omega (arith, room .1) })) $
         assigns ! (bin ! (load ! (from ! (fld ! refl (stop !))) (look-in ! 15 (sub ! 0 refl (whole !)))) (load ! (from ! (stop !)) (look ! 11 refl)) tt) (from ! (stop !)) (init ! 5 refl (tt, tt)) $
-        rewrite ! 5 (λ (p : ℕ). ‵ (fat fullShare tyPtr l₆ 0 (vptr b p))) (sym (place-is 134 o (i .0))) refl $
+        rewrite ! 5 (λ (p : ℕ). ‵ (fat fullShare tyPtr l₆ 0 (vptr b p))) (sym (place-is 646 o (i .0))) refl $
         move ! (1 ∷ 0 ∷ []) $ looks-elem ! tt T.the-row call ys (i .0) cleared b o l (λ q′ is.
         -- [row[i]; the others; the open borrow; the borrow; res; _7; …; _6; …; …]
         assigns ! (of-opd ! (load ! (from ! (hop ! (look ! 7 refl) (stop !))) (look-raw ! 0 refl))) (from ! (stop !)) (init ! 5 refl (typed call W (recordAt ys (i .0)) is .0)) $

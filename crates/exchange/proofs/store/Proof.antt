@@ -54,7 +54,7 @@ module _ {M : Type 1} (𝓤 : URA M) (H : Heap 𝓤) (A : Atoms 𝓤) (W : Given
         (λ y. let l : i < length ys = ltb→lt i (length ys) y in
         regroup ! $ assigns ! (bin ! (load ! (from ! (stop !)) (look ! 10 refl)) (lit ! tt) (record { fits = omega (arith, room .1) })) (from ! (stop !)) (init ! 2 refl (tt, record { fits = omega (arith, room .1) })) $
         regroup ! $ assigns ! (bin ! (load ! (from ! (fld ! refl (stop !))) (look-in ! 12 (sub ! 0 refl (whole !)))) (load ! (from ! (stop !)) (look ! 2 refl)) tt) (from ! (stop !)) (init ! 0 refl (tt, tt)) $
-        rewrite ! 0 (λ (p : ℕ). ‵ (fat fullShare tyPtr l₇ 0 (vptr b p))) (sym (place-is 134 o i)) refl $
+        rewrite ! 0 (λ (p : ℕ). ‵ (fat fullShare tyPtr l₇ 0 (vptr b p))) (sym (place-is 646 o i)) refl $
         move ! (16 ∷ 17 ∷ 18 ∷ []) $ opens-elem ! tt T.the-row call ys i cleared b o l (λ is.
         -- [row[i]; the others; the open borrow; obs; auth; _7; …; _6; …; _5; …; _4; …; _3; …; _2; …; _1; …; room for _0; …]
         assigns ! (of-opd ! (load ! (from ! (stop !)) (look ! 13 refl))) (from ! (hop ! (look ! 5 refl) (stop !))) (store-raw ! 0 refl (typed call W c c-ok .0)) $

@@ -6,7 +6,21 @@ use Rattle.making.proofs.new_outcome.Tie as tie
 
 returns : tie.Need-returns
 unfolding newOutcomeBy
-returns c p e h = cc (c .before .before .before .before .before .before .before .before .before .before .type-exists .ensures p e, c .before .before .before .before .before .before .before .before .address-held .ensures p h)
+returns c p e h =
+    let d = c .before .before .before .before .before .before in
+    rw (
+      c .unless6 .ensures,
+      c .before .unless5 .ensures,
+      c .before .before .unless4 .ensures,
+      c .before .before .before .unless3 .ensures,
+      c .before .before .before .before .unless2 .ensures,
+      c .before .before .before .before .before .unless .ensures,
+      d .before .before .before .before .type-exists .ensures p e,
+      d .before .before .before .makes-new .ensures,
+      d .before .before .address-held .ensures p h,
+      d .before .legal-string .ensures,
+      d .legal .ensures,
+    )
 
 pub new-outcome-spec : {M : Type 1} → statement M
 new-outcome-spec =

@@ -1,16 +1,12 @@
 -- `recordbytes::deliver` meets its contract. Assumes nothing.
-use mathlib.Core.Path.{_≡_, sym, ap, ap₂, _∙_}
+use mathlib.Core.Path.{_≡_, sym, ap, _∙_}
 use Prim.Native.Nat.{ℕ, _+_, _<_}
 use lib.ListN.{getD}
-use Rattle.ends.specs.declared.End.{End}
-use Rattle.ends.specs.declared.Signal.{Signal}
-use Rattle.ends.specs.declared.Verdict.the-variants.{Refuse, Become}
-use Rattle.ends.specs.Ends.{takes}
-use Rattle.call.specs.Protocol.{stateOf, queueTo, slot}
-use Rattle.recordbytes.specs.Parts.{repliedAt}
+use Rattle.call.specs.Protocol.{queueTo}
 use Rattle.call.proofs.Steps.{pos}
 use Rattle.recordbytes.specs.Records.{callAt}
-use Rattle.recordbytes.proofs.Steps.{given-as, refusing-as, count-from, deliver-none, deliver-refuse, deliver-become}
+use Rattle.recordbytes.specs.Parts.{repliedAt}
+use Rattle.recordbytes.proofs.Steps.{count-from, given-as, refusing-as, heard, deliver-none, deliver-refuse, deliver-become}
 use borrow.Author.Needs.{needs}
 use Rattle.recordbytes.proofs.deliver.Statement.{statement}
 use Rattle.recordbytes.proofs.deliver.Tie as tie
@@ -18,35 +14,30 @@ use Rattle.recordbytes.proofs.deliver.Tie as tie
 returns : tie.Need-returns
 returns c =
     let a = c .before .before .before .before .args in
-    let d = callAt (a .row .now) (a .at) in
-    refusing-as (a .row .now) (a .at) (deliver-none (a .row .now) (a .at) (a .s) (sym ((ap (λ (q : ℕ). getD (a .row .now) (a .at + q) 0) (c .before .before .queue-to .ensures .0) ∙ count-from (a .s) (a .row .now) (a .at))) ∙ c .if1 .taken))
+    let n = ap (λ (q : ℕ). getD (a .row .now) (a .at + q) 0) (c .before .before .queue-to .ensures .0) ∙ count-from (a .s) (a .row .now) (a .at) in
+    refusing-as (a .row .now) (a .at) (deliver-none (a .row .now) (a .at) (a .s) (sym n ∙ c .if1 .taken))
 
 replied-requires : tie.Need-replied-requires
 replied-requires c κs =
-    let a = c .before .before .before .before .before .before .before .before .before .before .before .before .before .args in
-    let d = callAt (a .row .now) (a .at) in
-    let n = (ap (λ (q : ℕ). getD (a .row .now) (a .at + q) 0) (c .before .before .before .before .before .before .before .before .before .before .before .queue-to .ensures .0) ∙ count-from (a .s) (a .row .now) (a .at)) in
-    (c .before .before .before .before .before .before .before .before .before .before .before .before .before .pre .0, rw n at (pos (c .before .before .before .before .before .before .before .before .before .if1 .left)))
+    let a = c .before .before .before .before .before .before .before .before .before .before .before .before .before .before .before .args in
+    let n = ap (λ (q : ℕ). getD (a .row .now) (a .at + q) 0) (c .before .before .before .before .before .before .before .before .before .before .before .before .before .queue-to .ensures .0) ∙ count-from (a .s) (a .row .now) (a .at) in
+    (c .before .before .before .before .before .before .before .before .before .before .before .before .before .before .before .pre .0, rw n at (pos (c .before .before .before .before .before .before .before .before .before .before .before .if1 .left)))
 
 returns-2 : tie.Need-returns-2
 returns-2 c =
-    let a = c .before .before .before .before .before .before .before .before .before .before .before .before .args in
-    let d = callAt (a .row .now) (a .at) in
-    let n = (ap (λ (q : ℕ). getD (a .row .now) (a .at + q) 0) (c .before .before .before .before .before .before .before .before .before .before .queue-to .ensures .0) ∙ count-from (a .s) (a .row .now) (a .at)) in
-    let h : 0 < queueTo (a .s) d .count = rw n at (pos (c .before .before .before .before .before .before .before .before .if1 .left)) in
-    let x = c .before .before .before .before .before .before .head-at .ensures in
-    let t : takes (stateOf (a .s) d) (slot (queueTo (a .s) d .slots) 0 .signal) ≡ Refuse (c .before .v .given .0 .0) = sym (c .before .before .before .take .ensures ∙ ap₂ (λ (e : End) (y : Signal). takes (e .state) y) (c .before .before .before .before .end-at .ensures) x) ∙ c .before .v .given .1 in
+    let a = c .before .before .before .before .before .before .before .before .before .before .before .before .before .before .args in
+    let n = ap (λ (q : ℕ). getD (a .row .now) (a .at + q) 0) (c .before .before .before .before .before .before .before .before .before .before .before .before .queue-to .ensures .0) ∙ count-from (a .s) (a .row .now) (a .at) in
+    let h : 0 < queueTo (a .s) (callAt (a .row .now) (a .at)) .count = rw n at (pos (c .before .before .before .before .before .before .before .before .before .before .if1 .left)) in
+    let t = sym (heard (a .row .now) (a .at) (a .s) (c .before .before .before .before .state-at .ensures) (c .before .before .before .before .before .before .before .before .head-at .ensures) (c .before .before .before .before .before .before .channel-for .ensures) (c .before .before .before .take-with .ensures)) ∙ c .before .v .given .1 in
     refusing-as (a .row .now) (a .at) (deliver-refuse (a .row .now) (a .at) (a .s) _ h t)
 
 returns-3 : tie.Need-returns-3
 returns-3 c =
-    let a = c .before .before .before .before .before .before .before .before .before .before .before .before .before .before .before .before .args in
-    let d = callAt (a .row .now) (a .at) in
-    let n = (ap (λ (q : ℕ). getD (a .row .now) (a .at + q) 0) (c .before .before .before .before .before .before .before .before .before .before .before .before .before .before .queue-to .ensures .0) ∙ count-from (a .s) (a .row .now) (a .at)) in
-    let h : 0 < queueTo (a .s) d .count = rw n at (pos (c .before .before .before .before .before .before .before .before .before .before .before .before .if1 .left)) in
-    let x = c .before .before .before .before .before .before .before .before .before .before .head-at .ensures in
-    let t : takes (stateOf (a .s) d) (slot (queueTo (a .s) d .slots) 0 .signal) ≡ Become (c .before .before .before .before .before .v2 .given .0 .0) = sym (c .before .before .before .before .before .before .before .take .ensures ∙ ap₂ (λ (e : End) (y : Signal). takes (e .state) y) (c .before .before .before .before .before .before .before .before .end-at .ensures) x) ∙ c .before .before .before .before .before .v2 .given .1 in
-    given-as (deliver-become (a .row .now) (a .at) (a .s) _ h (c .before .before .before .before .before .before .before .before .before .before .before .before .before .before .before .before .pre .1) t ∙ sym (ap (repliedAt (a .row .now) (a .at) (a .s) (c .before .before .before .before .before .v2 .given .0 .0)) x)) (c .before .before .replied .ensures)
+    let a = c .before .before .before .before .before .before .before .before .before .before .before .before .before .before .before .before .before .before .args in
+    let n = ap (λ (q : ℕ). getD (a .row .now) (a .at + q) 0) (c .before .before .before .before .before .before .before .before .before .before .before .before .before .before .before .before .queue-to .ensures .0) ∙ count-from (a .s) (a .row .now) (a .at) in
+    let h : 0 < queueTo (a .s) (callAt (a .row .now) (a .at)) .count = rw n at (pos (c .before .before .before .before .before .before .before .before .before .before .before .before .before .before .if1 .left)) in
+    let t = sym (heard (a .row .now) (a .at) (a .s) (c .before .before .before .before .before .before .before .before .state-at .ensures) (c .before .before .before .before .before .before .before .before .before .before .before .before .head-at .ensures) (c .before .before .before .before .before .before .before .before .before .before .channel-for .ensures) (c .before .before .before .before .before .before .before .take-with .ensures)) ∙ c .before .before .before .before .before .v2 .given .1 in
+    given-as (deliver-become (a .row .now) (a .at) (a .s) _ h (c .before .before .before .before .before .before .before .before .before .before .before .before .before .before .before .before .before .before .pre .1) t ∙ sym (ap (repliedAt (a .row .now) (a .at) (a .s) (c .before .before .before .before .before .v2 .given .0 .0)) (c .before .before .before .before .before .before .before .before .before .before .before .before .head-at .ensures))) (c .before .before .replied .ensures)
 
 pub deliver-spec : {M : Type 1} → statement M
 deliver-spec =
@@ -56,6 +47,7 @@ deliver-spec =
     (λ c. search needs)
     (λ c. search needs)
     returns
+    (λ c κs. search needs)
     (λ c κs. search needs)
     (λ c κs. search needs)
     (λ c κs. search needs)

@@ -8,35 +8,34 @@ use Rattle.recordbytes.proofs.replied.Tie as tie
 returns : tie.Need-returns
 returns c =
     let a = c .before .before .before .before .before .before .args in
-    no-reply (a .row .now) (a .at) (a .s) (a .e) (c .before .before .before .enum-told4 .given .1) (c .before .before .queue-from .ensures .0) (c .if1 .taken)
+    no-reply (a .row .now) (a .at) (a .s) (a .state) (c .before .before .before .enum-told4 .given .1) (c .before .before .queue-from .ensures .0) (c .if1 .taken)
 
 push-requires : tie.Need-push-requires
 push-requires c κs =
     let a = c .before .before .before .before .before .before .before .before .before .before .before .args in
     let room = c .before .before .before .before .before .before .before .before .before .before .before .pre .0 in
-    let q = c .before .before .before .before .before .before .before .queue-from .ensures .0 in
-    let kept = given-kept (a .row .now) (a .at) (a .s) (a .e) room (c .before .before .before .given4 .ensures) q in
+    let kept = given-kept (a .row .now) (a .at) (a .s) (a .state) (a .x) room (c .before .before .before .given4 .ensures) (c .before .before .before .before .before .before .before .queue-from .ensures .0) in
     omega (arith, room, c .before .before .before .before .before .if1 .left, c .before .before .before .given4 .kept .0, c .before .before .before .before .before .before .before .queue-from .ensures .1)
 
 returns-2 : tie.Need-returns-2
 returns-2 c =
     let a = c .before .before .before .before .before .before .before .args in
-    handed-upack (a .row .now) (a .at) (a .s) (a .e) (c .before .before .given .ensures) (c .before .before .before .before .enum-told .given .1)
+    handed-upack (a .row .now) (a .at) (a .s) (a .state) (c .before .before .given .ensures) (c .before .before .before .before .enum-told .given .1)
 
 returns-3 : tie.Need-returns-3
 returns-3 c =
     let a = c .before .before .before .before .before .before .before .args in
-    handed-ordinary (a .row .now) (a .at) (a .s) (a .e) (c .before .before .given2 .ensures) (c .before .before .before .before .enum-told2 .given .1)
+    handed-ordinary (a .row .now) (a .at) (a .s) (a .state) (c .before .before .given2 .ensures) (c .before .before .before .before .enum-told2 .given .1)
 
 returns-4 : tie.Need-returns-4
 returns-4 c =
     let a = c .before .before .before .before .before .before .before .args in
-    handed-downack (a .row .now) (a .at) (a .s) (a .e) (c .before .before .given3 .ensures) (c .before .before .before .before .enum-told3 .given .1)
+    handed-downack (a .row .now) (a .at) (a .s) (a .state) (c .before .before .given3 .ensures) (c .before .before .before .before .enum-told3 .given .1)
 
 returns-5 : tie.Need-returns-5
 returns-5 c =
     let a = c .before .before .before .before .before .before .before .before .before .before .before .before .before .before .args in
-    handed-teardown (a .row .now) (a .at) (a .s) (a .e) (c .before .before .before .before .before .before .given4 .ensures) (c .before .before .before .before .before .before .before .before .before .before .before .enum-told4 .given .1) (c .before .before .before .before .before .before .before .before .before .before .queue-from .ensures .0) (c .before .before .before .before .before .before .before .before .if1 .left) (c .before .before .push .ensures)
+    handed-teardown (a .row .now) (a .at) (a .s) (a .state) (c .before .before .before .before .before .before .given4 .ensures) (c .before .before .before .before .before .before .before .before .before .before .before .enum-told4 .given .1) (c .before .before .before .before .before .before .before .before .before .before .queue-from .ensures .0) (c .before .before .before .before .before .before .before .before .if1 .left) (c .before .before .push .ensures)
 
 pub replied-spec : {M : Type 1} → statement M
 replied-spec =

@@ -1,6 +1,6 @@
 -- `recordbytes::step_in` meets its contract. Assumes nothing.
 use mathlib.Core.Path.{ap, _∙_}
-use Rattle.call.specs.declared.Side.the-variants.{Caller, Callee}
+use Rattle.ends.specs.declared.Side.the-variants.{Caller, Callee}
 use Rattle.call.specs.Protocol.{other}
 use Rattle.call.proofs.Steps.{few}
 use Rattle.recordbytes.specs.Records.{callAt}

@@ -3,7 +3,7 @@ use mathlib.Core.Path.{refl}
 use Prim.Native.Nat.{_+_}
 use native.Mathlib.Omega.{arith}
 use Rattle.ends.specs.declared.Signal.the-variants.{Upack, Ordinary}
-use Rattle.call.specs.declared.Side.the-variants.{Caller, Callee}
+use Rattle.ends.specs.declared.Side.the-variants.{Caller, Callee}
 use Rattle.recordbytes.proofs.Steps.{settled-kept, one-counted, three-more, three-refused, three-over}
 use borrow.Author.Needs.{needs}
 use Rattle.recordbytes.proofs.three_sent.Statement.{statement}

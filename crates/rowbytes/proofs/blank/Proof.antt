@@ -11,13 +11,13 @@ use Rattle.rowbytes.proofs.blank.Statement.{statement}
 use Rattle.rowbytes.proofs.blank.Tie as tie
 
 abbrev Inv-loop : tie.InvT-loop
-Inv-loop row₀ at i₀ row i = (i ≤ 102) × (length row ≡ length row₀) × (sets row (at + i) (drop i (replicate 102 0)) ≡ sets row₀ at (replicate 102 0))
+Inv-loop row₀ at i₀ row i = (i ≤ 614) × (length row ≡ length row₀) × (sets row (at + i) (drop i (replicate 614 0)) ≡ sets row₀ at (replicate 614 0))
 
 abbrev μ-loop : tie.MeasureT-loop
-μ-loop row₀ at i₀ row i = 102 - i
+μ-loop row₀ at i₀ row i = 614 - i
 
 loop-holds : tie.Need-loop-holds Inv-loop μ-loop
-loop-holds c = (search needs, refl, put-all (c .args .row .now) (replicate 102 0) (c .args .at))
+loop-holds c = (search needs, refl, put-all (c .args .row .now) (replicate 614 0) (c .args .at))
 
 add-row : tie.Need-add-row Inv-loop μ-loop
 add-row c = omega arith
@@ -42,7 +42,7 @@ loop-again c =
     )
 
 returns : tie.Need-returns Inv-loop μ-loop
-returns c = sym (put-done (c .before .loop .row) (replicate 102 0) (c .before .before .args .at + c .before .loop .i) (c .before .loop .i) (c .loop-test .left)) ∙ c .before .loop .inv .2
+returns c = sym (put-done (c .before .loop .row) (replicate 614 0) (c .before .before .args .at + c .before .loop .i) (c .before .loop .i) (c .loop-test .left)) ∙ c .before .loop .inv .2
 
 pub blank-spec : {M : Type 1} → statement M
 blank-spec =

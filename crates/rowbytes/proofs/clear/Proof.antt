@@ -11,10 +11,10 @@ use Rattle.rowbytes.proofs.clear.Statement.{statement}
 use Rattle.rowbytes.proofs.clear.Tie as tie
 
 abbrev Inv-loop : tie.InvT-loop
-Inv-loop row₀ end i₀ row i = (i ≤ recordsIn row₀ * 102) × (length row ≡ length row₀) × (row ≡ replicate i 0 ++ drop i row₀)
+Inv-loop row₀ end i₀ row i = (i ≤ recordsIn row₀ * 614) × (length row ≡ length row₀) × (row ≡ replicate i 0 ++ drop i row₀)
 
 abbrev μ-loop : tie.MeasureT-loop
-μ-loop row₀ end i₀ row i = recordsIn row₀ * 102 - i
+μ-loop row₀ end i₀ row i = recordsIn row₀ * 614 - i
 
 loop-holds : tie.Need-loop-holds Inv-loop μ-loop
 loop-holds c = (search needs, refl, refl)
@@ -33,7 +33,7 @@ loop-again c = (omega arith, length-set (c .before .loop .row) (c .before .loop 
 
 returns : tie.Need-returns Inv-loop μ-loop
 returns c =
-    let end : c .before .loop .i ≡ recordsIn (c .before .before .args .row .now) * 102 = omega arith in
+    let end : c .before .loop .i ≡ recordsIn (c .before .before .args .row .now) * 614 = omega arith in
     let all : c .before .loop .row ≡ clearedIn (c .before .before .args .row .now) = c .before .loop .inv .2 ∙ rw end (zeros-all (c .before .before .args .row .now)) in
     (all, ap rowIn all ∙ row-cleared (c .before .before .args .row .now))
 

@@ -1,49 +1,18 @@
 -- `rowbytes::command` meets its contract. Assumes nothing.
-use mathlib.Core.Path.{sym, _∙_}
-use borrow.Author.Tests.{eq-eqb, ne-eqb}
-use Rattle.rowbytes.proofs.Turns.{too-long, past-row, free-record, other-use, stepped-in}
+use Rattle.rowbytes.proofs.Turns.{turns-as}
 use borrow.Author.Needs.{needs}
 use Rattle.rowbytes.proofs.command.Statement.{statement}
 use Rattle.rowbytes.proofs.command.Tie as tie
 
 returns : tie.Need-returns
 returns c =
-    let a = c .before .before .args in
-    too-long (a .row .now) (a .r) (a .use-number) (a .k) (c .if1 .taken)
-
-returns-2 : tie.Need-returns-2
-returns-2 c =
-    let a = c .before .before .before .args in
-    past-row (a .row .now) (a .r) (a .use-number) (a .k) (c .before .if1 .left) (c .if2 .taken)
-
-returns-3 : tie.Need-returns-3
-returns-3 c =
-    let a = c .before .before .before .before .before .before .args in
-    free-record (a .row .now) (a .r) (a .use-number) (a .k) (c .before .before .before .before .if1 .left) (c .before .before .before .if2 .left) (sym (c .before .free-in .ensures) ∙ c .if3 .taken)
-
-returns-4 : tie.Need-returns-4
-returns-4 c =
-    let a = c .before .before .before .before .before .before .before .before .before .args in
-    other-use (a .row .now) (a .r) (a .use-number) (a .k) (c .before .before .before .before .before .before .before .if1 .left) (c .before .before .before .before .before .before .if2 .left) (sym (c .before .before .before .before .free-in .ensures) ∙ c .before .before .before .if3 .left) (c .before .use-at .ensures) (ne-eqb _ _ (c .if4 .taken))
-
-returns-5 : tie.Need-returns-5
-returns-5 c =
-    let a = c .before .before .before .before .before .before .before .before .before .before .before .before .before .args in
-    stepped-in (a .row .now) (a .r) (a .use-number) (a .k) (c .before .before .before .before .before .before .before .before .before .before .before .if1 .left) (c .before .before .before .before .before .before .before .before .before .before .if2 .left) (sym (c .before .before .before .before .before .before .before .before .free-in .ensures) ∙ c .before .before .before .before .before .before .before .if3 .left) (c .before .before .before .before .before .use-at .ensures) (eq-eqb _ _ (c .before .before .before .before .if4 .left)) (c .before .before .command-at .ensures .0) (c .before .before .command-at .ensures .1)
+    let a = c .before .before .before .before .before .args in
+    turns-as (a .row .now) (a .r) (a .use-number) (a .k) (c .before .before .command-for .ensures .0) (c .before .before .command-for .ensures .1)
 
 pub command-spec : {M : Type 1} → statement M
 command-spec =
     tie.close
     (tie.spec
-    returns
-    returns-2
-    (λ c. search needs)
     (λ c κs. search needs)
     (λ c. search needs)
-    returns-3
-    (λ c κs. search needs)
-    (λ c. search needs)
-    returns-4
-    (λ c κs. search needs)
-    (λ c. search needs)
-    returns-5)
+    returns)

@@ -10,7 +10,7 @@ use Rattle.rowbytes.proofs.lowest_free.Statement.{statement}
 use Rattle.rowbytes.proofs.lowest_free.Tie as tie
 
 abbrev Inv-loop : tie.InvT-loop
-Inv-loop row n i₀ i = (i ≤ recordsIn row) × (i + lowestFree (records (recordsIn row - i) row (102 * i)) ≡ lowestFree (rowIn row))
+Inv-loop row n i₀ i = (i ≤ recordsIn row) × (i + lowestFree (records (recordsIn row - i) row (614 * i)) ≡ lowestFree (rowIn row))
 
 abbrev μ-loop : tie.MeasureT-loop
 μ-loop row n i₀ i = recordsIn row - i

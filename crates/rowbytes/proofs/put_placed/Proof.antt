@@ -21,7 +21,7 @@ returns : tie.Need-returns
 returns c =
     let a = c .before .before .before .before .before .before .args in
     rw (c .before .before .blank .ensures)
-    (placed-stored (a .row .now) (102 * a .r) (a .use-number) ∙ put-in (a .row .now) (a .r) (a .use-number) (c .before .before .before .before .if1 .taken))
+    (placed-stored (a .row .now) (614 * a .r) (a .use-number) ∙ put-in (a .row .now) (a .r) (a .use-number) (c .before .before .before .before .if1 .taken))
 
 returns-2 : tie.Need-returns-2
 returns-2 c =

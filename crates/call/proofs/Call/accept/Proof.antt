@@ -1,7 +1,7 @@
 -- `call::Call::accept` meets its contract. Assumes nothing.
 use mathlib.Core.Path.{ap, _∙_, sym}
 use Rattle.call.specs.Parts.{oneSent}
-use Rattle.call.specs.declared.Side.the-variants.{Callee}
+use Rattle.ends.specs.declared.Side.the-variants.{Callee}
 use Rattle.ends.specs.declared.Signal.the-variants.{Upack}
 use Rattle.call.proofs.Steps.{accepts}
 use borrow.Author.Needs.{needs}

@@ -16,7 +16,7 @@ returns c =
     let q = c .before .before .before .queue .ensures ∙ ap (λ o. queueTo o (a .self)) (c .before .before .before .before .other .ensures) in
     c .one-sent .ensures
     ∙ ap (λ v. oneSent (a .self) (a .s) v (Ordinary (a .tunnel) (a .status)))
-    (c .before .speak .ensures ∙ ap₂ (λ (e : End) (y : Queue). speaks (e .state) (a .tunnel) (a .status) (y .count)) (c .before .before .end .ensures) q)
+    (c .before .speak .ensures ∙ ap₂ (λ (e : End) (y : Queue). speaks (a .s) e (a .tunnel) (a .status) (y .count)) (c .before .before .end .ensures) q)
     ∙ sym (sends-one (a .self) (a .s) (a .tunnel) (a .status))
 
 pub send-spec : {M : Type 1} → statement M

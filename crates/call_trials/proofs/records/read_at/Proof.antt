@@ -5,10 +5,10 @@ use Rattle.call_trials.proofs.records.read_at.Statement.{statement}
 use Rattle.call_trials.proofs.records.read_at.Tie as tie
 
 abbrev Inv-loop : tie.InvT-loop
-Inv-loop row r at own₀ j₀ own j = j ≤ 102
+Inv-loop row r at own₀ j₀ own j = j ≤ 614
 
 abbrev μ-loop : tie.MeasureT-loop
-μ-loop row r at own₀ j₀ own j = 102 - j
+μ-loop row r at own₀ j₀ own j = 614 - j
 
 pub read-at-spec : {M : Type 1} → statement M
 read-at-spec =

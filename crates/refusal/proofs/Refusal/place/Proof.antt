@@ -77,10 +77,18 @@ returns-23 c = sym (ap placeOf (c .before .self5 .given .1))
 returns-24 : tie.Need-returns-24
 returns-24 c = sym (ap placeOf (c .before .self6 .given .1))
 
+returns-25 : tie.Need-returns-25
+returns-25 c = sym (ap placeOf (c .enum-told19 .given .1))
+
+returns-26 : tie.Need-returns-26
+returns-26 c = sym (ap placeOf (c .enum-told20 .given .1))
+
 pub place-spec : {M : Type 1} → statement M
 place-spec =
     tie.close
     (tie.spec
+    (λ c. search needs)
+    (λ c. search needs)
     (λ c. search needs)
     (λ c. search needs)
     (λ c. search needs)
@@ -128,4 +136,6 @@ place-spec =
     returns-21
     returns-22
     returns-23
-    returns-24)
+    returns-24
+    returns-25
+    returns-26)
