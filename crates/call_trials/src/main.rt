@@ -1,7 +1,7 @@
 // Calls by a script: a line of standard input a case, `what is done = what comes`, on lent structs AND on lent bytes, which have to agree.
 //
 // The script has a port, and a row of up to four records. `port ..`, `row ..` and `record ..` make them what is said: cleared, or with states, a use number and signals that wait. A command follows
-// `then`, or is a line of its own: `accept`, `busy`, `unobtainable`, `send SIDE SIGNAL`, `teardown SIDE`, `deliver SIDE`, `place`, `show`: for the port, or with `record N use N` or `in row` for the row.
+// `then`, or is a line of its own: `accept`, `busy`, `unobtainable`, `send SIDE SIGNAL`, `teardown SIDE`, `deliver SIDE`, `place`, `show`, `show tunnel N` (with the two channels of that tunnel): for the port, or with `record N use N` or `in row` for the row.
 // What comes: the answer, what was sent, and both states after it; or a refusal alone.
 // A row of more than four records is made for one line only, `row N .., record N .., then COMMAND`, of bytes alone: rows of so many structs, copied, would not go on the stack.
 mod records;
@@ -439,6 +439,18 @@ fn agreed(before: Scene, bytes: Came, structs: Came) -> Came {
 
 // ---- a case
 
+// With `tunnel N` the two channels of that tunnel too.
+fn with_channels(words: Words, c: Call, w: Words) -> Words {
+    if !names::says(w, names::TUNNEL) {
+        return words;
+    }
+    told::channels(
+        words,
+        c,
+        (asked::number_after(w, names::TUNNEL) % 256) as u8,
+    )
+}
+
 fn shown(s: Scene, w: Words) -> Came {
     let port = s.port;
     let row = s.row;
@@ -448,7 +460,7 @@ fn shown(s: Scene, w: Words) -> Came {
         record_in(port)
     };
     Came {
-        words: told::record(c),
+        words: with_channels(told::record(c), c, w),
         scene: s,
     }
 }
