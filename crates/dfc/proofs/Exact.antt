@@ -7,7 +7,7 @@ use contract.Lifetimes.{Lfts}
 use denote.Ref.{RefT}
 use denote.Triple.Clauses.{AtExit}
 use borrow.Fn.Kinds.{endedOf}
-use Rattle.dfc.specs.declared.Answer.{Answer}
+use Rattle.answers.specs.declared.Answer.{Answer}
 use Rattle.dfc.specs.declared.Routed.{Routed}
 use Rattle.dfc.specs.declared.Commanded.{Commanded}
 use Rattle.dfc.specs.declared.Placed.{Placed}

@@ -15,8 +15,9 @@ use Rattle.making.specs.declared.Outcome.the-variants.{Made, Refused as NotMade
 use Rattle.making.specs.declared.Answer.{Answer as Making}
 use Rattle.making.specs.Making.{newAnswer, continuedAnswer, reversedAnswer}
 use Rattle.setupbytes.specs.Codec.{setupBytes, setupIn}
-use Rattle.dfc.specs.declared.Answer.{Answer}
-use Rattle.dfc.specs.Said.{accepted, refusal, answerOver, lentOver, regionOf}
+use Rattle.answers.specs.declared.Answer.{Answer}
+use Rattle.answers.specs.Said.{accepted, refusal}
+use Rattle.dfc.specs.Said.{answerOver, lentOver, regionOf}
 
 -- ---- the file itself
 

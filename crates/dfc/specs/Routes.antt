@@ -15,7 +15,8 @@ use Rattle.routing.specs.declared.Outcome.{Outcome}
 use Rattle.routing.specs.declared.Outcome.the-variants.{Routed as To, Refused as NotRouted}
 use Rattle.routing.specs.Routing.{answer, outcome, sourceList, targetList}
 use Rattle.dfc.specs.declared.Routed.{Routed}
-use Rattle.dfc.specs.Said.{placeNumber, lentOver}
+use Rattle.answers.specs.Said.{placeNumber}
+use Rattle.dfc.specs.Said.{lentOver}
 
 -- the box that a call is routed to: 0 a feature box, 1 a line, 2 a trunk, 3 a resource box, 4 the error box
 abbrev pub boxKind : Callee → ℕ

@@ -1,30 +1,16 @@
--- What a C program is told: a number and a value. Number 0 is accepted, and the value is the operation's; else the number is document 01's and the value the refusal's place, 0 where it has
--- none. Boxes, regions and makers are numbers too. Assumes nothing.
+-- What a C program is told over a plan file, and how it names regions and makers: by numbers. Assumes nothing.
 use Prim.Native.Nat.{ℕ}
 use mathlib.Core.Bool.{cond}
 use mathlib.Core.List.{List}
 use lib.Dec.{eqb}
-use Rattle.refusal.specs.declared.Refusal.{Refusal}
-use Rattle.refusal.specs.declared.Place.{Place}
-use Rattle.refusal.specs.declared.Place.the-variants.{Nowhere, At}
-use Rattle.refusal.specs.Numbers.{numberOf, placeOf}
 use Rattle.plan.specs.declared.Region.{Region}
 use Rattle.plan.specs.declared.Region.the-variants.{Source, Target}
 use Rattle.plan.specs.declared.Verdict.{Verdict}
 use Rattle.plan.specs.declared.Verdict.the-variants.{Sound, Refused}
 use Rattle.making.specs.declared.Maker.{Maker}
 use Rattle.making.specs.declared.Maker.the-variants.{Feature, Line, Trunk, Resource, Error}
-use Rattle.dfc.specs.declared.Answer.{Answer}
-
-abbrev pub placeNumber : Place → ℕ
-placeNumber Nowhere = 0
-placeNumber (At n) = n
-
-abbrev pub accepted : ℕ → Answer
-accepted v = record { number = 0; value = v }
-
-abbrev pub refusal : Refusal → Answer
-refusal r = record { number = numberOf r; value = placeNumber (placeOf r) }
+use Rattle.answers.specs.declared.Answer.{Answer}
+use Rattle.answers.specs.Said.{refusal}
 
 -- Every operation is over a plan file: the file's refusal, or the operation's answer
 abbrev pub answerOver : Verdict → Answer → Answer

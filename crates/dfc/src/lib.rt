@@ -7,51 +7,20 @@ ghost use Rattle.plan.specs.Find.{seen};
 ghost use Rattle.zone.specs.Order.{held};
 ghost use Rattle.zone.specs.Answer.{zoneAt};
 ghost use Rattle.setupbytes.specs.Codec.{setupBytes};
-ghost use Rattle.dfc.specs.Said.{placeNumber, accepted, refusal, regionOf, makerOf};
+ghost use Rattle.dfc.specs.Said.{regionOf, makerOf};
 ghost use Rattle.dfc.specs.Files.{checked, writtenSaid, rewritten, roomRewritten, zoned, typesZoned, madeSaid, madeRoom, making, roomMaking, newOver, continuedOver, reversedOver};
 ghost use Rattle.dfc.specs.Routes.{boxKind, boxNumber, boxAddress, routedTo, notRouted, routedSaid, routedRoom, routed, roomRouted, sourceRouted, targetRouted};
+use answers::Answer;
 use making::Maker;
 use making::Outcome;
 use plan::Region;
 use plan::Seen;
 use plan::Verdict;
 use planwrite::Written;
-use refusal::Place;
 use refusal::Refusal;
 use routing::Callee;
 use routing::Later;
 use zone::Zone;
-
-// Number 0 and the operation's value; or document 01's number of a refusal and its place.
-#[repr(C)]
-pub struct Answer {
-    pub number: u64,
-    pub value: u64,
-}
-
-fn accepted(value: u64) -> Answer
-    ensures { λ r. ⌜ r ≡ accepted value ⌝ }
-{
-    Answer { number: 0, value }
-}
-
-fn place_number(place: Place) -> u64
-    ensures { λ r. ⌜ r ≡ placeNumber place ⌝ }
-{
-    match place {
-        Place::Nowhere => 0,
-        Place::At(n) => n as u64,
-    }
-}
-
-fn refused(r: Refusal) -> Answer
-    ensures { λ a. ⌜ a ≡ refusal r ⌝ }
-{
-    Answer {
-        number: r.number() as u64,
-        value: place_number(r.place()),
-    }
-}
 
 fn region_of(n: u8) -> Region
     ensures { λ r. ⌜ r ≡ regionOf n ⌝ }
@@ -90,8 +59,8 @@ pub extern "C" fn dfc_check(file: &[u8]) -> Answer
 {
     let answer = planread::verdict(file);
     match answer {
-        Verdict::Sound => accepted(0),
-        Verdict::Refused(r) => refused(r),
+        Verdict::Sound => answers::accepted(0),
+        Verdict::Refused(r) => answers::refused(r),
     }
 }
 
@@ -99,8 +68,8 @@ fn written_said(w: Written) -> Answer
     ensures { λ r. ⌜ r ≡ writtenSaid w ⌝ }
 {
     match w {
-        Written::Bytes(n) => accepted(n as u64),
-        Written::Refused(r) => refused(r),
+        Written::Bytes(n) => answers::accepted(n as u64),
+        Written::Refused(r) => answers::refused(r),
     }
 }
 
@@ -145,9 +114,9 @@ pub extern "C" fn dfc_zone(file: &[u8], region: u8, address: u32, types: &mut [u
         Verdict::Sound => {
             let zone = zone_shown(region_of(region), v);
             *types = types_of(zone);
-            accepted(zone.len as u64)
+            answers::accepted(zone.len as u64)
         }
-        Verdict::Refused(r) => refused(r),
+        Verdict::Refused(r) => answers::refused(r),
     }
 }
 
@@ -162,9 +131,9 @@ fn handed(m: making::Answer, room: &mut [u8; 110]) -> Answer
     match outcome {
         Outcome::Made => {
             *room = setupbytes::setup_bytes(setup);
-            accepted(110)
+            answers::accepted(110)
         }
-        Outcome::Refused(r) => refused(r),
+        Outcome::Refused(r) => answers::refused(r),
     }
 }
 
@@ -191,7 +160,7 @@ pub extern "C" fn dfc_new(
             let m = making::new_seen(true, v, maker, string, target);
             handed(m, room)
         }
-        Verdict::Refused(r) => refused(r),
+        Verdict::Refused(r) => answers::refused(r),
     }
 }
 
@@ -222,7 +191,7 @@ pub extern "C" fn dfc_continued(
             let m = making::continued_seen(true, v, maker, s, source, string, target);
             handed(m, room)
         }
-        Verdict::Refused(r) => refused(r),
+        Verdict::Refused(r) => answers::refused(r),
     }
 }
 
@@ -253,7 +222,7 @@ pub extern "C" fn dfc_reversed(
             let m = making::reversed_seen(true, v, maker, s, source, string, target);
             handed(m, room)
         }
-        Verdict::Refused(r) => refused(r),
+        Verdict::Refused(r) => answers::refused(r),
     }
 }
 
@@ -340,7 +309,7 @@ fn not_routed(r: Refusal) -> Routed
 {
     Routed {
         number: r.number() as u64,
-        value: place_number(r.place()),
+        value: answers::place_number(r.place()),
         kind: 0,
         box_number: 0,
         address: 0,

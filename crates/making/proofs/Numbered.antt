@@ -11,8 +11,9 @@ use borrow.Author.Tests.{eqb-true, eq-eqb, ne-eqb, eqb-false}
 use Rattle.typeset.specs.Sets.{has}
 use Rattle.typeset.proofs.Bools.{yes-or-no, clash, and-left, and-right, not-true}
 use Rattle.refusal.specs.Numbers.{numberOf, placeOf}
+use Rattle.refusal.proofs.Nothing.{refusal-number}
 use Rattle.refusal.specs.declared.Refusal.{Refusal}
-use Rattle.refusal.specs.declared.Refusal.the-variants.{NoSuchType, NotForThisBox, WrongAddress, NotReversible, Malformed, NotRoutedHere, BadString, OwnAddress, AddressTooLarge, NoSuchCall, NoFreeRecord, StateForbids, TooManyWaiting, NothingWaiting, NotOrdinary, RowTooLong, BrokenRecord, ListTooShort, WrongEnd, WrongTag, WrongLength, RuleBroken, TooManySubscribers, RoomTooShort, TunnelTaken, ChannelForbids}
+use Rattle.refusal.specs.declared.Refusal.the-variants.{RuleBroken}
 use Rattle.refusal.specs.declared.Place.{Place}
 use Rattle.refusal.specs.declared.Place.the-variants.{Nowhere, At}
 use Rattle.plan.specs.declared.Region.{Region}
@@ -169,34 +170,6 @@ unfolding reversedRows
 reversed-order p m s sourceArg string targetArg = refl
 
 -- ---- exactly when
-
-refusal-number : (r : Refusal) → eqb (numberOf r) 0 ≡ false
-refusal-number NoSuchType = refl
-refusal-number NotForThisBox = refl
-refusal-number WrongAddress = refl
-refusal-number NotReversible = refl
-refusal-number Malformed = refl
-refusal-number NotRoutedHere = refl
-refusal-number BadString = refl
-refusal-number OwnAddress = refl
-refusal-number AddressTooLarge = refl
-refusal-number NoSuchCall = refl
-refusal-number NoFreeRecord = refl
-refusal-number StateForbids = refl
-refusal-number TooManyWaiting = refl
-refusal-number NothingWaiting = refl
-refusal-number NotOrdinary = refl
-refusal-number RowTooLong = refl
-refusal-number BrokenRecord = refl
-refusal-number ListTooShort = refl
-refusal-number (WrongEnd at) = refl
-refusal-number (WrongTag at) = refl
-refusal-number (WrongLength at) = refl
-refusal-number (RuleBroken at) = refl
-refusal-number (TooManySubscribers at) = refl
-refusal-number (RoomTooShort at) = refl
-refusal-number TunnelTaken = refl
-refusal-number ChannelForbids = refl
 
 -- a number says whether a setup was made: it is 0 then, and for no refusal
 made-zero : (o : Outcome) → eqb (numberOfOutcome o) 0 ≡ true → o ≡ Made

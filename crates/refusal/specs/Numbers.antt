@@ -1,7 +1,7 @@
--- What each refusal is in document 01, and 40 and 41 in document 02: its number, and for 20 to 25 its place. Assumes nothing.
+-- What each refusal is in document 01, and from 40 on in document 02: its number, and for 20 to 25 its place. Assumes nothing.
 use Prim.Native.Nat.{ℕ}
 use Rattle.refusal.specs.declared.Refusal.{Refusal}
-use Rattle.refusal.specs.declared.Refusal.the-variants.{NoSuchType, NotForThisBox, WrongAddress, NotReversible, Malformed, NotRoutedHere, BadString, OwnAddress, AddressTooLarge, NoSuchCall, NoFreeRecord, StateForbids, TooManyWaiting, NothingWaiting, NotOrdinary, RowTooLong, BrokenRecord, ListTooShort, WrongEnd, WrongTag, WrongLength, RuleBroken, TooManySubscribers, RoomTooShort, TunnelTaken, ChannelForbids}
+use Rattle.refusal.specs.declared.Refusal.the-variants.{NoSuchType, NotForThisBox, WrongAddress, NotReversible, Malformed, NotRoutedHere, BadString, OwnAddress, AddressTooLarge, NoSuchCall, NoFreeRecord, StateForbids, TooManyWaiting, NothingWaiting, NotOrdinary, RowTooLong, BrokenRecord, ListTooShort, WrongEnd, WrongTag, WrongLength, RuleBroken, TooManySubscribers, RoomTooShort, TunnelTaken, ChannelForbids, NotInPlan, SetsBreakRule, OtherIndex, Closed, StoreFull, OnePort, LinksFull, NotLinks}
 use Rattle.refusal.specs.declared.Place.{Place}
 use Rattle.refusal.specs.declared.Place.the-variants.{Nowhere, At}
 
@@ -33,6 +33,14 @@ numberOf (TooManySubscribers at) = 24
 numberOf (RoomTooShort at) = 25
 numberOf TunnelTaken = 40
 numberOf ChannelForbids = 41
+numberOf NotInPlan = 45
+numberOf SetsBreakRule = 46
+numberOf OtherIndex = 47
+numberOf Closed = 70
+numberOf StoreFull = 71
+numberOf OnePort = 80
+numberOf LinksFull = 81
+numberOf NotLinks = 82
 
 -- "20 to 25 also a place": where the refusal applies, counted from 0
 abbrev pub placeOf : Refusal → Place
@@ -62,3 +70,11 @@ placeOf (TooManySubscribers at) = At at
 placeOf (RoomTooShort at) = At at
 placeOf TunnelTaken = Nowhere
 placeOf ChannelForbids = Nowhere
+placeOf NotInPlan = Nowhere
+placeOf SetsBreakRule = Nowhere
+placeOf OtherIndex = Nowhere
+placeOf Closed = Nowhere
+placeOf StoreFull = Nowhere
+placeOf OnePort = Nowhere
+placeOf LinksFull = Nowhere
+placeOf NotLinks = Nowhere

@@ -2,7 +2,7 @@
 use mathlib.Core.Path.{refl, ap, _∙_}
 use Rattle.zone.specs.declared.Zone.{Zone}
 use Rattle.zone.specs.Order.{held}
-use Rattle.dfc.specs.Said.{accepted}
+use Rattle.answers.specs.Said.{accepted}
 use Rattle.dfc.specs.Files.{zoned, typesZoned}
 use Rattle.planread.specs.Reading.{readOf}
 use Rattle.dfc.proofs.Sights.{sight-answer, sight-seen}

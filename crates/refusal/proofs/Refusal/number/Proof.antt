@@ -83,10 +83,42 @@ returns-25 c = sym (ap numberOf (c .enum-told25 .given .1))
 returns-26 : tie.Need-returns-26
 returns-26 c = sym (ap numberOf (c .enum-told26 .given .1))
 
+returns-27 : tie.Need-returns-27
+returns-27 c = sym (ap numberOf (c .enum-told27 .given .1))
+
+returns-28 : tie.Need-returns-28
+returns-28 c = sym (ap numberOf (c .enum-told28 .given .1))
+
+returns-29 : tie.Need-returns-29
+returns-29 c = sym (ap numberOf (c .enum-told29 .given .1))
+
+returns-30 : tie.Need-returns-30
+returns-30 c = sym (ap numberOf (c .enum-told30 .given .1))
+
+returns-31 : tie.Need-returns-31
+returns-31 c = sym (ap numberOf (c .enum-told31 .given .1))
+
+returns-32 : tie.Need-returns-32
+returns-32 c = sym (ap numberOf (c .enum-told32 .given .1))
+
+returns-33 : tie.Need-returns-33
+returns-33 c = sym (ap numberOf (c .enum-told33 .given .1))
+
+returns-34 : tie.Need-returns-34
+returns-34 c = sym (ap numberOf (c .enum-told34 .given .1))
+
 pub number-spec : {M : Type 1} → statement M
 number-spec =
     tie.close
     (tie.spec
+    (λ c. search needs)
+    (λ c. search needs)
+    (λ c. search needs)
+    (λ c. search needs)
+    (λ c. search needs)
+    (λ c. search needs)
+    (λ c. search needs)
+    (λ c. search needs)
     (λ c. search needs)
     (λ c. search needs)
     (λ c. search needs)
@@ -138,4 +170,12 @@ number-spec =
     returns-23
     returns-24
     returns-25
-    returns-26)
+    returns-26
+    returns-27
+    returns-28
+    returns-29
+    returns-30
+    returns-31
+    returns-32
+    returns-33
+    returns-34)

@@ -83,10 +83,42 @@ returns-25 c = sym (ap placeOf (c .enum-told19 .given .1))
 returns-26 : tie.Need-returns-26
 returns-26 c = sym (ap placeOf (c .enum-told20 .given .1))
 
+returns-27 : tie.Need-returns-27
+returns-27 c = sym (ap placeOf (c .enum-told21 .given .1))
+
+returns-28 : tie.Need-returns-28
+returns-28 c = sym (ap placeOf (c .enum-told22 .given .1))
+
+returns-29 : tie.Need-returns-29
+returns-29 c = sym (ap placeOf (c .enum-told23 .given .1))
+
+returns-30 : tie.Need-returns-30
+returns-30 c = sym (ap placeOf (c .enum-told24 .given .1))
+
+returns-31 : tie.Need-returns-31
+returns-31 c = sym (ap placeOf (c .enum-told25 .given .1))
+
+returns-32 : tie.Need-returns-32
+returns-32 c = sym (ap placeOf (c .enum-told26 .given .1))
+
+returns-33 : tie.Need-returns-33
+returns-33 c = sym (ap placeOf (c .enum-told27 .given .1))
+
+returns-34 : tie.Need-returns-34
+returns-34 c = sym (ap placeOf (c .enum-told28 .given .1))
+
 pub place-spec : {M : Type 1} → statement M
 place-spec =
     tie.close
     (tie.spec
+    (λ c. search needs)
+    (λ c. search needs)
+    (λ c. search needs)
+    (λ c. search needs)
+    (λ c. search needs)
+    (λ c. search needs)
+    (λ c. search needs)
+    (λ c. search needs)
     (λ c. search needs)
     (λ c. search needs)
     (λ c. search needs)
@@ -138,4 +170,12 @@ place-spec =
     returns-23
     returns-24
     returns-25
-    returns-26)
+    returns-26
+    returns-27
+    returns-28
+    returns-29
+    returns-30
+    returns-31
+    returns-32
+    returns-33
+    returns-34)

@@ -1,7 +1,7 @@
--- `dfc::refused` meets its contract. Assumes nothing.
+-- `answers::refused` meets its contract. Assumes nothing.
 use borrow.Author.Needs.{needs}
-use Rattle.dfc.proofs.refused.Statement.{statement}
-use Rattle.dfc.proofs.refused.Tie as tie
+use Rattle.answers.proofs.refused.Statement.{statement}
+use Rattle.answers.proofs.refused.Tie as tie
 
 returns : tie.Need-returns
 returns c = rw (c .before .before .number .ensures, c .place-number .ensures, c .before .place .ensures)
