@@ -100,12 +100,26 @@ pub fn is_refused(w: Words) -> bool {
     console::word(w, 0) == names::word(names::REFUSED)
 }
 
-fn answer(a: Answer) -> Words {
+// The answer of a command on structs.
+pub fn answer(a: Answer) -> Words {
     let none = console::no_words();
     match a {
         Answer::Accepted => put(none, names::ACCEPTED),
         Answer::Delivered(x) => signal(none, x),
         Answer::Refused(r) => console::refused(none, r),
+    }
+}
+
+// The answer of a command on bytes: a refusal's number; or 0, and 1 and a signal where one was handed over.
+pub fn numbered(number: u64, delivered: u64, x: Signal) -> Words {
+    let none = console::no_words();
+    if number != 0 {
+        return put_number(none, names::REFUSED, number);
+    }
+    if delivered == 0 {
+        put(none, names::ACCEPTED)
+    } else {
+        signal(none, x)
     }
 }
 
@@ -135,8 +149,7 @@ fn sent(w: Words, side: usize, before: Queue, after: Queue) -> Words {
 }
 
 // A refusal alone; else the answer, what was sent, and both states.
-pub fn command(a: Answer, before: Call, after: Call) -> Words {
-    let w = answer(a);
+pub fn command(w: Words, before: Call, after: Call) -> Words {
     if is_refused(w) {
         return w;
     }

@@ -8,15 +8,18 @@ mod records;
 
 use call::Call;
 use call::Command;
+use call::Side;
 use call_script::asked;
 use call_script::names;
 use call_script::told;
 use console::Tally;
 use console::Words;
+use ends::Signal;
 use libc::STDIN_FILENO;
 use making::Maker;
 use plan::Plan;
 use plan::Seen;
+use recordbytes::Commanded;
 use setup::Setup;
 ghost use Rattle.io.specs.Counts.{Counts};
 
@@ -146,16 +149,74 @@ fn with_calls(s: Scene, calls: [Call; 4]) -> Scene {
     r
 }
 
+// ---- a command by numbers, as the bytes take it
+
+struct Numbers {
+    kind: u8,
+    side: u8,
+    signal: u8,
+    tunnel: u8,
+    code: u8,
+}
+
+fn side_number(s: Side) -> u8 {
+    match s {
+        Side::Caller => 0,
+        Side::Callee => 1,
+    }
+}
+
+fn bare(kind: u8, side: u8) -> Numbers {
+    Numbers {
+        kind,
+        side,
+        signal: 0,
+        tunnel: 0,
+        code: 0,
+    }
+}
+
+fn sending(s: Side, x: Signal) -> Numbers {
+    Numbers {
+        kind: 3,
+        side: side_number(s),
+        signal: signalbytes::signal_number(x),
+        tunnel: signalbytes::signal_tunnel(x),
+        code: signalbytes::signal_code(x),
+    }
+}
+
+fn numbers_of(k: Command) -> Numbers {
+    match k {
+        Command::Accept => bare(0, 0),
+        Command::Busy => bare(1, 0),
+        Command::Unobtainable => bare(2, 0),
+        Command::Send(s, tunnel, status) => sending(s, Signal::Ordinary(tunnel, status)),
+        Command::Teardown(s) => bare(4, side_number(s)),
+        Command::Deliver(s) => bare(5, side_number(s)),
+    }
+}
+
+fn low(n: u64) -> u8 {
+    (n % 256) as u8
+}
+
+fn answered(c: Commanded) -> Words {
+    let x = signalbytes::signal_said(low(c.signal), low(c.tunnel), low(c.code));
+    told::numbered(c.number, c.delivered, x)
+}
+
 // ---- a port
 
 fn port_commanded(s: Scene, k: Command) -> Came {
     let mut port = s.port;
     let before = record_in(port);
-    let answer = rowbytes::port_command(&mut port, k);
+    let n = numbers_of(k);
+    let answer = rowbytes::port_command(&mut port, n.kind, n.side, n.signal, n.tunnel, n.code);
     let mut scene = s;
     scene.port = port;
     Came {
-        words: told::command(answer, before, record_in(port)),
+        words: told::command(answered(answer), before, record_in(port)),
         scene,
     }
 }
@@ -170,7 +231,7 @@ fn port_stepped(s: Scene, k: Command) -> Came {
     let mut scene = s;
     scene.port = left;
     Came {
-        words: told::command(answer, before, after),
+        words: told::command(told::answer(answer), before, after),
         scene,
     }
 }
@@ -291,8 +352,18 @@ fn bytes_commanded(row: &mut [u8], n: Named) -> Words {
     let k = n.command;
     let others = digest(row, at);
     let before = records::read_at(row, n.record);
-    let answer = rowbytes::command(row, n.record, n.use_number, k);
-    let words = told::command(answer, before, records::read_at(row, n.record));
+    let m = numbers_of(k);
+    let answer = rowbytes::command(
+        row,
+        n.record,
+        n.use_number,
+        m.kind,
+        m.side,
+        m.signal,
+        m.tunnel,
+        m.code,
+    );
+    let words = told::command(answered(answer), before, records::read_at(row, n.record));
     told::unless(words, digest(row, at) != others, names::ELSEWHERE)
 }
 
@@ -349,7 +420,7 @@ fn row_stepped(s: Scene, n: Named) -> Came {
     let left = z.calls;
     let before = record_of(calls, n.record);
     Came {
-        words: told::command(answer, before, record_of(left, n.record)),
+        words: told::command(told::answer(answer), before, record_of(left, n.record)),
         scene: with_calls(s, left),
     }
 }

@@ -9,7 +9,7 @@ use denote.Triple.Clauses.{AtExit}
 use borrow.Fn.Kinds.{endedOf}
 use Rattle.answers.specs.declared.Answer.{Answer}
 use Rattle.dfc.specs.declared.Routed.{Routed}
-use Rattle.dfc.specs.declared.Commanded.{Commanded}
+use Rattle.recordbytes.specs.declared.Commanded.{Commanded}
 use Rattle.dfc.specs.declared.Placed.{Placed}
 use Rattle.dfc.proofs.dfc_check.Reads as check
 use Rattle.dfc.proofs.dfc_check.Kinds as check-kinds

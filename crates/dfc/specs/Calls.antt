@@ -1,58 +1,20 @@
--- Calls for a C program: what a command and a placing are told by numbers, and what they answer and leave in lent memory. Assumes nothing.
+-- Calls for a C program: what a placing is told by numbers, and what it answers and leaves in lent memory. (Commands by numbers are in recordbytes/specs/Numbers.) Assumes nothing.
 use Prim.Native.Nat.{ℕ}
-use mathlib.Core.Bool.{cond}
 use mathlib.Core.List.{List, [], _∷_}
-use lib.Dec.{eqb}
-use Rattle.refusal.specs.Numbers.{numberOf}
 use Rattle.plan.specs.declared.Verdict.{Verdict}
 use Rattle.plan.specs.declared.Verdict.the-variants.{Sound, Refused}
 use Rattle.planread.specs.Reading.{readOf}
 use Rattle.setupbytes.specs.Codec.{setupIn}
 use Rattle.routing.specs.Routing.{sourceList, targetList}
 use Rattle.call.specs.declared.Call.{Call}
-use Rattle.ends.specs.declared.Side.{Side}
-use Rattle.ends.specs.declared.Side.the-variants.{Caller, Callee}
-use Rattle.call.specs.declared.Command.{Command}
-use Rattle.call.specs.declared.Command.the-variants.{Accept, Busy, Unobtainable, Send, Teardown, Deliver}
-use Rattle.call.specs.declared.Answer.{Answer}
-use Rattle.call.specs.declared.Answer.the-variants.{Accepted, Delivered, Refused as NotAccepted}
-use Rattle.call.specs.Row.{Reply, placed-at, says}
 use Rattle.placing.specs.declared.Placed.{Placed as Placing}
 use Rattle.placing.specs.Rows.{outcomeIn, turned, placedIn}
-use Rattle.signalbytes.specs.Numbers.{noSignal, statusSaid, signalNumber, signalTunnel, signalCode}
 use Rattle.recordbytes.specs.Records.{callAt}
 use Rattle.rowbytes.specs.Rows.{rowIn, placedBy}
 use Rattle.dfc.specs.declared.Routed.{Routed}
-use Rattle.dfc.specs.declared.Commanded.{Commanded}
 use Rattle.dfc.specs.declared.Placed.{Placed}
 use Rattle.dfc.specs.Said.{lentOver}
 use Rattle.dfc.specs.Routes.{notRouted, routedSaid, routedRoom}
-
--- ---- a command by numbers
-
--- 0 is the caller, any other number the callee
-abbrev pub sideOf : ℕ → Side
-sideOf n = cond (eqb n 0) Caller Callee
-
--- 0 accept, 1 busy, 2 unobtainable, 3 send, 4 teardown, 5 deliver; what a command has no use for does not count. Any other kind is no command, and is told as a send of what is no signal, which is refused.
-abbrev pub commandOf : ℕ → ℕ → ℕ → ℕ → ℕ → Command
-commandOf kind side signal tunnel code =
-    cond (eqb kind 0) Accept
-    (cond (eqb kind 1) Busy
-    (cond (eqb kind 2) Unobtainable
-    (cond (eqb kind 3) (Send (sideOf side) tunnel (statusSaid signal code))
-    (cond (eqb kind 4) (Teardown (sideOf side)) (cond (eqb kind 5) (Deliver (sideOf side)) (Send (sideOf side) tunnel noSignal))))))
-
--- number 0, and 1 and the signal where one was handed over; or the refusal's number, and zeros
-abbrev pub commandedSaid : Answer → Commanded
-commandedSaid Accepted = record { number = 0; delivered = 0; signal = 0; tunnel = 0; code = 0 }
-commandedSaid (Delivered x) = record { number = 0; delivered = 1; signal = signalNumber x; tunnel = signalTunnel x; code = signalCode x }
-commandedSaid (NotAccepted r) = record { number = numberOf r; delivered = 0; signal = 0; tunnel = 0; code = 0 }
-
--- a command is never answered by a placing
-abbrev pub replySaid : Reply → Commanded
-replySaid (says a) = commandedSaid a
-replySaid (placed-at r n) = commandedSaid Accepted
 
 -- ---- a call placed, over a plan file
 

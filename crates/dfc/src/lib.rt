@@ -364,22 +364,10 @@ ghost use Rattle.call.specs.Protocol.{step};
 ghost use Rattle.call.specs.Row.{turn, command as by-command};
 ghost use Rattle.recordbytes.specs.Records.{callAt};
 ghost use Rattle.recordbytes.specs.Steps.{stepAt};
+ghost use Rattle.recordbytes.specs.Numbers.{commandOf, commandedSaid, replySaid};
 ghost use Rattle.rowbytes.specs.Rows.{rowIn, clearedIn, commandedIn};
-ghost use Rattle.rowbytes.specs.Parts.{foundIn, commandedBy};
-ghost use Rattle.dfc.specs.Calls.{sideOf, commandOf, commandedSaid, replySaid, placedAs, placed, rowPlaced, portPlaced, sourcePlaced, targetPlaced, roomPlaced};
-use call::Command;
-use call::Side;
-use ends::Status;
-
-// Number 0, and 1 and the signal where one was handed over; or the refusal's number, and zeros.
-#[repr(C)]
-pub struct Commanded {
-    pub number: u64,
-    pub delivered: u64,
-    pub signal: u64,
-    pub tunnel: u64,
-    pub code: u64,
-}
+ghost use Rattle.dfc.specs.Calls.{placedAs, placed, rowPlaced, portPlaced, sourcePlaced, targetPlaced, roomPlaced};
+use recordbytes::Commanded;
 
 // What routing says, and where the call was placed; beside a refusal zeros.
 #[repr(C)]
@@ -393,94 +381,12 @@ pub struct Placed {
     pub use_number: u64,
 }
 
-fn side_of(n: u8) -> Side
-    ensures { λ r. ⌜ r ≡ sideOf n ⌝ }
-{
-    if n == 0 { Side::Caller } else { Side::Callee }
-}
-
-fn command_of(kind: u8, side: u8, signal: u8, tunnel: u8, code: u8) -> Command
-    ensures { λ r. ⌜ r ≡ commandOf kind side signal tunnel code ⌝ }
-{
-    if kind == 0 {
-        return Command::Accept;
-    }
-    if kind == 1 {
-        return Command::Busy;
-    }
-    if kind == 2 {
-        return Command::Unobtainable;
-    }
-    if kind == 3 {
-        return Command::Send(
-            side_of(side),
-            tunnel,
-            signalbytes::status_said(signal, code),
-        );
-    }
-    if kind == 4 {
-        return Command::Teardown(side_of(side));
-    }
-    if kind == 5 {
-        return Command::Deliver(side_of(side));
-    }
-    Command::Send(side_of(side), tunnel, Status::Dtmf(255))
-}
-
-fn commanded_said(a: call::Answer) -> Commanded
-    ensures { λ r. ⌜ r ≡ commandedSaid a ⌝ }
-{
-    match a {
-        call::Answer::Accepted => Commanded {
-            number: 0,
-            delivered: 0,
-            signal: 0,
-            tunnel: 0,
-            code: 0,
-        },
-        call::Answer::Delivered(x) => Commanded {
-            number: 0,
-            delivered: 1,
-            signal: wide_8(signalbytes::signal_number(x)),
-            tunnel: wide_8(signalbytes::signal_tunnel(x)),
-            code: wide_8(signalbytes::signal_code(x)),
-        },
-        call::Answer::Refused(r) => Commanded {
-            number: wide_8(r.number()),
-            delivered: 0,
-            signal: 0,
-            tunnel: 0,
-            code: 0,
-        },
-    }
-}
-
 // Every record of a row cleared; the bytes past the last whole record stay.
 #[no_mangle]
 pub extern "C" fn dfc_clear(row: &mut [u8])
     ensures { λ _. ⌜ now (row .exit) ≡ clearedIn (now (row .entry)) ⌝ }
 {
     rowbytes::clear(row);
-}
-
-// A command for a record of a row, or for a port's record, by numbers.
-fn by_numbers(
-    named: bool,
-    row: &mut [u8],
-    record_number: usize,
-    use_number: u16,
-    kind: u8,
-    side: u8,
-    signal: u8,
-    tunnel: u8,
-    code: u8,
-) -> Commanded
-    ensures { λ r. ⌜ (r ≡ commandedSaid (commandedBy (foundIn named (now (row .entry)) «record_number» «use_number») (now (row .entry)) (commandOf kind side signal tunnel code) .answer))
-        × (now (row .exit) ≡ commandedBy (foundIn named (now (row .entry)) «record_number» «use_number») (now (row .entry)) (commandOf kind side signal tunnel code) .bytes) ⌝ }
-{
-    let k = command_of(kind, side, signal, tunnel, code);
-    let a = rowbytes::command_for(named, row, record_number, use_number, k);
-    commanded_said(a)
 }
 
 // A command for a record of a row, by its number and the use number that placing gave.
@@ -498,8 +404,7 @@ pub extern "C" fn dfc_command(
     ensures { λ r. ⌜ (r ≡ replySaid (turn (rowIn (now (row .entry))) (by-command «record_number» «use_number» (commandOf kind side signal tunnel code)) .reply))
         × (now (row .exit) ≡ commandedIn (now (row .entry)) «record_number» «use_number» (commandOf kind side signal tunnel code)) ⌝ }
 {
-    by_numbers(
-        true,
+    rowbytes::command(
         row,
         record_number,
         use_number,
@@ -524,7 +429,7 @@ pub extern "C" fn dfc_port_command(
     ensures { λ r. ⌜ (r ≡ commandedSaid (step (callAt (now (port .entry)) 0) (commandOf kind side signal tunnel code) .answer))
         × (now (port .exit) ≡ stepAt (now (port .entry)) 0 (commandOf kind side signal tunnel code) .bytes) ⌝ }
 {
-    by_numbers(false, port, 0, 0, kind, side, signal, tunnel, code)
+    rowbytes::port_command(port, kind, side, signal, tunnel, code)
 }
 
 fn wide_size(n: usize) -> u64

@@ -137,7 +137,7 @@ fn is_linked(s: State) -> bool
     }
 }
 
-// ---- an end by its state and one channel: what a record in bytes goes by, where no end is made a value
+// ---- an end by its state and one channel, where no end is made a value
 
 // A waiting end answers, and goes to the state `next`.
 pub fn answer_with(s: State, next: State) -> Verdict

@@ -2,3 +2,5 @@ pub mod Places
 pub mod Steps
 pub mod AsStep
 pub mod Exact
+pub mod Numbers
+pub mod Acts

@@ -1,26 +1,24 @@
 -- That what the code makes of a record's bytes is the step of Steps: its parts, one by one. Assumes nothing.
 use mathlib.Core.Path.{_≡_, refl, sym, ap, _∙_}
 use mathlib.Core.Bool.{Bool, true, false, cond}
-use mathlib.Core.List.{List, [], _∷_}
-use Prim.Native.Nat.{ℕ, _+_, _*_, _-_, _≤_, _<_}
+use mathlib.Core.List.{List, _∷_}
+use Prim.Native.Nat.{ℕ, _+_, _-_, _≤_, _<_}
 use native.Mathlib.Omega.{arith}
 use lib.Dec.{leb, eqb}
-use mathlib.Core.Logic.{_≢_}
 use lib.ListN.{length, getD, length-set}
-use lib.Seq.{getD-set-other}
 use borrow.Author.Tests.{le-leb, lt-leb}
 use Rattle.refusal.specs.declared.Refusal.{Refusal}
 use Rattle.refusal.specs.declared.Refusal.the-variants.{NoSuchCall, NothingWaiting, BrokenRecord}
 use Rattle.ends.specs.declared.State.{State}
 use Rattle.ends.specs.declared.State.the-variants.{Linked, Unlinking}
-use Rattle.ends.specs.Ends.{channelAt, channelFor, speaksWith, takesWith}
+use Rattle.ends.specs.Ends.{channelAt}
 use Rattle.ends.specs.declared.Status.{Status}
 use Rattle.ends.specs.declared.Status.the-variants.{Unknown, Unavail}
 use Rattle.ends.specs.declared.Signal.{Signal}
 use Rattle.ends.specs.declared.Signal.the-variants.{Upack, Ordinary, Teardown, Downack}
 use Rattle.ends.specs.declared.Verdict.{Verdict}
 use Rattle.ends.specs.declared.Verdict.the-variants.{Refuse as refuse, Become as become}
-use Rattle.signalbytes.specs.Numbers.{stateSaid, stateNumber, signalSaid}
+use Rattle.signalbytes.specs.Numbers.{stateSaid, signalSaid}
 use Rattle.call.specs.declared.Call.{Call}
 use Rattle.ends.specs.declared.Side.{Side}
 use Rattle.ends.specs.declared.Side.the-variants.{Caller, Callee}
@@ -31,9 +29,9 @@ use Rattle.call.specs.declared.Answer.the-variants.{Accepted, Delivered, Refuse
 use Rattle.call.specs.Protocol.{other, endOf, stateOf, queueTo, slot, waiting, answers, speaks, tears, takes, fit}
 use Rattle.call.proofs.Steps.{waiting-some}
 use Rattle.recordbytes.specs.Records.{statePlace, queuePlace, channelPlace, slotsFrom, bytesFrom, callAt}
-use Rattle.recordbytes.specs.Steps.{Stepped, refusingAt, settledAt, touchedAt, passedAt, pushedAt, poppedAt, outcomeAt, stepAt, commandAt}
+use Rattle.recordbytes.specs.Steps.{Stepped, refusingAt, settledAt, touchedAt, passedAt, pushedAt, outcomeAt, stepAt, commandAt}
 use Rattle.recordbytes.specs.Parts.{actedAt, oneSentAt, threeSentAt, givenAt, repliedAt}
-use Rattle.recordbytes.proofs.Places.{bytes-at, pushed-count, popped-before, popped-past}
+use Rattle.recordbytes.proofs.Places.{bytes-at}
 
 -- ---- the parts of a record, by their bytes
 
@@ -67,31 +65,6 @@ head-from Callee b at =
     let q : at + 53 + 3 ≡ at + 53 + 1 + 2 = omega arith in
     rw (p, q) refl
 
--- ---- counts that a change leaves
-
--- a state is no count
-settled-count : (b : List ℕ) (at : ℕ) (s t : Side) (st : State) → getD (settledAt b at s st) (at + queuePlace t) 0 ≡ getD b (at + queuePlace t) 0
-settled-count b at Caller Caller st = getD-set-other b (at + 0) (at + 4) _ 0 (λ h. absurd (omega (arith, h)))
-settled-count b at Caller Callee st = getD-set-other b (at + 0) (at + 53) _ 0 (λ h. absurd (omega (arith, h)))
-settled-count b at Callee Caller st = getD-set-other b (at + 1) (at + 4) _ 0 (λ h. absurd (omega (arith, h)))
-settled-count b at Callee Callee st = getD-set-other b (at + 1) (at + 53) _ 0 (λ h. absurd (omega (arith, h)))
-
-passed-count : (b : List ℕ) (at : ℕ) (s t : Side) (sends : Bool) (x : Signal) → getD (passedAt b at s sends x) (at + queuePlace t) 0 ≡ getD b (at + queuePlace t) 0
-passed-count b at s t sends Upack = refl
-passed-count b at s t sends Teardown = refl
-passed-count b at s t sends Downack = refl
-passed-count b at s t sends (Ordinary tunnel x) = by (eqb tunnel 0)
-  where
-    elsewhere : (s t : Side) → at + queuePlace t ≢ at + channelPlace s + tunnel
-    elsewhere Caller Caller h = omega (arith, h)
-    elsewhere Caller Callee h = omega (arith, h)
-    elsewhere Callee Caller h = omega (arith, h)
-    elsewhere Callee Callee h = omega (arith, h)
-
-    by : (z : Bool) → getD (cond z b (touchedAt b at s sends tunnel x)) (at + queuePlace t) 0 ≡ getD b (at + queuePlace t) 0
-    by true = refl
-    by false = getD-set-other b (at + channelPlace s + tunnel) (at + queuePlace t) _ 0 (elsewhere s t)
-
 pub passed-length : (b : List ℕ) (at : ℕ) (s : Side) (sends : Bool) (x : Signal) → length (passedAt b at s sends x) ≡ length b
 passed-length b at s sends Upack = refl
 passed-length b at s sends Teardown = refl
@@ -101,29 +74,6 @@ passed-length b at s sends (Ordinary tunnel x) = by (eqb tunnel 0)
     by : (z : Bool) → length (cond z b (touchedAt b at s sends tunnel x)) ≡ length b
     by true = refl
     by false = length-set b (at + channelPlace s + tunnel) _
-
--- the bytes in which a state and a channel went on
-abbrev pub goneOn : List ℕ → ℕ → Side → State → Bool → Signal → List ℕ
-goneOn b at s st sends x = passedAt (settledAt b at s st) at s sends x
-
-pub gone-kept : (b : List ℕ) (at : ℕ) (s t : Side) (st : State) (sends : Bool) (x : Signal) {w v : List ℕ} {q : ℕ} → w ≡ settledAt b at s st → v ≡ passedAt w at s sends x → q ≡ queuePlace t → getD v (at + q) 0 ≡ getD b (at + q) 0
-gone-kept b at s t st sends x ew ev eq = rw (ev, ew, eq) (passed-count (settledAt b at s st) at s t sends x ∙ settled-count b at s t st)
-
-gone-length : (b : List ℕ) (at : ℕ) (s : Side) (st : State) (sends : Bool) (x : Signal) → length (goneOn b at s st sends x) ≡ length b
-gone-length b at s st sends x = passed-length (settledAt b at s st) at s sends x ∙ length-set b (at + statePlace s) _
-
-pub settled-kept : (b : List ℕ) (at : ℕ) (s t : Side) (st : State) {w : List ℕ} {q : ℕ} → w ≡ settledAt b at s st → q ≡ queuePlace t → getD w (at + q) 0 ≡ getD b (at + q) 0
-settled-kept b at s t st ew eq = rw (ew, eq) (settled-count b at s t st)
-
--- the head of one queue is not in the other
-given-count : (b : List ℕ) (at : ℕ) (s : Side) (st : State) (x : Signal) → at + 614 ≤ length b → getD (givenAt b at s st x) (at + queuePlace (other s)) 0 ≡ getD b (at + queuePlace (other s)) 0
-given-count b at Caller st x room =
-    let same : length (goneOn b at Caller st false x) ≡ length b = gone-length b at Caller st false x in
-    popped-past (goneOn b at Caller st false x) (at + 4) (omega (arith, room, same)) (at + 53) (omega arith) ∙ gone-kept b at Caller Callee st false x refl refl refl
-given-count b at Callee st x room = popped-before (goneOn b at Callee st false x) (at + 53) (at + 4) (omega arith) ∙ gone-kept b at Callee Caller st false x refl refl refl
-
-pub given-kept : (b : List ℕ) (at : ℕ) (s : Side) (st : State) (x : Signal) {w : List ℕ} {q : ℕ} → at + 614 ≤ length b → w ≡ givenAt b at s st x → q ≡ queuePlace (other s) → getD w (at + q) 0 ≡ getD b (at + q) 0
-given-kept b at s st x room ew eq = rw (ew, eq) (given-count b at s st x room)
 
 -- ---- a step's cases, as the parts of the code leave them
 
@@ -207,17 +157,6 @@ module _ (b : List ℕ) (at : ℕ) where
     pub there : at + 614 ≤ length b → stepAt b at k ≡ commandAt b at k
     there h = rw (le-leb (at + 614) (length b) h)
 
--- ---- the verdict of a send and of a delivery, by the bytes that decide it
-
-module _ (b : List ℕ) (at : ℕ) (s : Side) {st : State} (est : st ≡ stateOf s (callAt b at)) where
-  pub spoken : (t : ℕ) (x : Status) {n q : ℕ} {v : Verdict} → n ≡ channelAt t (endOf s (callAt b at) .channels) → q ≡ queuePlace (other s) → v ≡ speaksWith st s t x n (getD b (at + q) 0)
-      → v ≡ speaks s (endOf s (callAt b at)) t x (queueTo (other s) (callAt b at) .count)
-  spoken t x en eq ev = ev ∙ rw (est, en, eq, count-from (other s) b at) refl
-
-  pub heard : {x : Signal} {n : ℕ} {v : Verdict} → x ≡ slot (queueTo s (callAt b at) .slots) 0 .signal → n ≡ channelFor x (endOf s (callAt b at) .channels) → v ≡ takesWith st s x n
-      → v ≡ takes s (endOf s (callAt b at)) (slot (queueTo s (callAt b at) .slots) 0 .signal)
-  heard ex en ev = ev ∙ rw (est, en, ex) refl
-
 -- ---- what a function of the code gives
 
 -- where the step is s: its answer, and its bytes
@@ -269,7 +208,3 @@ module _ (b : List ℕ) (at : ℕ) where
   pub three-more : {v : Verdict} (x : Status) (st : State) {w y₁ y₂ y₃ : List ℕ} → v ≡ become st → getD b (at + 4) 0 ≤ 13 → w ≡ settledAt b at Callee st
       → y₁ ≡ pushedAt w (at + 4) Upack → y₂ ≡ pushedAt y₁ (at + 4) (Ordinary 0 x) → y₃ ≡ pushedAt y₂ (at + 4) Teardown → Gives (threeSentAt b at v x) Accepted y₃
   three-more x st ev h ew e₁ e₂ e₃ = rw (ev, le-leb (getD b (at + 4) 0 + 3) 16 (omega (arith, h))) (refl, rw (e₃, e₂, e₁, ew) refl)
-
--- a count after one signal more
-pub one-counted : (w : List ℕ) (q : ℕ) (x : Signal) {z : List ℕ} → q + 49 ≤ length w → z ≡ pushedAt w q x → getD z q 0 ≡ getD w q 0 + 1
-one-counted w q x h ez = rw ez (pushed-count w q h x)

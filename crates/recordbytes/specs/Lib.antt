@@ -1,3 +1,4 @@
 pub mod Records
 pub mod Steps
+pub mod Numbers
 pub mod Parts

@@ -1,70 +1,60 @@
 // A command on a call record in lent bytes, for programs in other languages (01 'Calls'). It is decided by few bytes of the record: the two counts, the acting end's state, the head of the queue towards it, one channel. What is accepted
-// changes the record where it stands, and only the bytes that it must; a refusal changes none.
-use call::Answer;
-use call::Command;
-use call::Side;
-use ends::Signal;
-use ends::State;
-use ends::Status;
-use ends::Verdict;
-use refusal::Refusal;
+// changes the record where it stands, and only the bytes that it must; a refusal changes none. Commands, sides, states and signals are the numbers that C and the bytes have, and a part answers one word: enums and structs would go through memory at each call.
 ghost use mathlib.Core.Path.{_≡_};
-ghost use Prim.Native.Nat.{_+_, _≤_, _<_};
-ghost use lib.ListN.{length, getD, take, drop};
+ghost use mathlib.Core.Bool.{not, cond};
+ghost use mathlib.Core.List.{[], _∷_};
+ghost use Prim.Native.Nat.{_+_, _*_, _≤_, _<_};
+ghost use lib.Dec.{eqb};
+ghost use lib.ListN.{length, getD, set, take, drop};
 ghost use lib.Seq.{sets};
-ghost use Rattle.ends.specs.Ends.{channelAt, channelFor};
-ghost use Rattle.call.specs.Protocol.{other, endOf, stateOf, queueTo, slot};
+ghost use Rattle.ends.specs.declared.State.the-variants.{Unlinking};
+ghost use Rattle.ends.specs.declared.Signal.the-variants.{Upack, Ordinary, Teardown, Downack};
+ghost use Rattle.call.specs.declared.Command.the-variants.{Accept, Send, Teardown as Hang-up, Deliver};
+ghost use Rattle.ends.specs.Ends.{isOrdinary, kindOf, noChannelSignal, opens, nextWith, answers};
+ghost use Rattle.signalbytes.specs.Numbers.{stateSaid, stateNumber, statusSaid, statusNumber, statusCode, signalSaid};
+ghost use Rattle.call.specs.Protocol.{other, stateOf, queueTo, slot};
 ghost use Rattle.recordbytes.specs.Records.{statePlace, queuePlace, channelPlace, callAt};
-ghost use Rattle.recordbytes.specs.Steps.{settledAt, touchedAt, passedAt, pushedAt, poppedAt, stepAt, commandAt};
-ghost use Rattle.recordbytes.specs.Parts.{actedAt, oneSentAt, threeSentAt, givenAt, repliedAt};
+ghost use Rattle.recordbytes.specs.Steps.{poppedAt, stepAt, commandAt};
+ghost use Rattle.recordbytes.specs.Numbers.{sideOf, commandOf, commandedSaid, inWord};
+ghost use Rattle.recordbytes.specs.Parts.{handedOver, putAt, actedAt, threeSentAt, nextIn, fitsIn};
+
+// An answer: number 0, and 1 and the signal where one was handed over; or the refusal's number, and zeros.
+#[repr(C)]
+pub struct Commanded {
+    pub number: u64,
+    pub delivered: u64,
+    pub signal: u64,
+    pub tunnel: u64,
+    pub code: u64,
+}
 
 // ---- the parts of a record
 
-fn state_place(s: Side) -> usize
-    ensures { λ r. ⌜ (r ≡ statePlace s) × (r < 2) ⌝ }
+fn state_place(side: u8) -> usize
+    ensures { λ r. ⌜ (r ≡ statePlace (sideOf side)) × (r < 2) ⌝ }
 {
-    match s {
-        Side::Caller => 0,
-        Side::Callee => 1,
-    }
+    if side == 0 { 0 } else { 1 }
 }
 
 // Where the queue towards a side's end begins.
-fn queue_to(s: Side) -> usize
-    ensures { λ r. ⌜ (r ≡ queuePlace s) × (r ≤ 53) ⌝ }
+fn queue_to(side: u8) -> usize
+    ensures { λ r. ⌜ (r ≡ queuePlace (sideOf side)) × (r ≤ 53) ⌝ }
 {
-    match s {
-        Side::Caller => 4,
-        Side::Callee => 53,
-    }
+    if side == 0 { 4 } else { 53 }
 }
 
 // Where the queue from a side's end begins.
-fn queue_from(s: Side) -> usize
-    ensures { λ r. ⌜ (r ≡ queuePlace (other s)) × (r ≤ 53) ⌝ }
+fn queue_from(side: u8) -> usize
+    ensures { λ r. ⌜ (r ≡ queuePlace (other (sideOf side))) × (r ≤ 53) ⌝ }
 {
-    match s {
-        Side::Caller => 53,
-        Side::Callee => 4,
-    }
+    if side == 0 { 53 } else { 4 }
 }
 
 // Where a side's channels begin.
-fn channel_place(s: Side) -> usize
-    ensures { λ r. ⌜ (r ≡ channelPlace s) × (r ≤ 358) ⌝ }
+fn channel_place(side: u8) -> usize
+    ensures { λ r. ⌜ (r ≡ channelPlace (sideOf side)) × (r ≤ 358) ⌝ }
 {
-    match s {
-        Side::Caller => 102,
-        Side::Callee => 358,
-    }
-}
-
-fn state_at(b: &[u8], at: usize, s: Side) -> State
-    requires { ⌜ at + 614 ≤ length (now b) ⌝ }
-    ensures { λ r. ⌜ r ≡ stateOf s (callAt (now (b .entry)) at) ⌝ }
-{
-    let n = state_place(s);
-    signalbytes::state_said(b[at + n])
+    if side == 0 { 102 } else { 358 }
 }
 
 fn wide(n: u8) -> usize
@@ -73,86 +63,153 @@ fn wide(n: u8) -> usize
     n as usize
 }
 
-fn channel_at(b: &[u8], at: usize, s: Side, tunnel: u8) -> u8
-    requires { ⌜ at + 614 ≤ length (now b) ⌝ }
-    ensures { λ r. ⌜ r ≡ channelAt tunnel (endOf s (callAt (now (b .entry)) at) .channels) ⌝ }
+// Where the channel of a tunnel stands.
+fn tunnel_place(side: u8, tunnel: u8) -> usize
+    ensures { λ r. ⌜ (r ≡ channelPlace (sideOf side) + tunnel) × (r ≤ 613) × (tunnel < 256) ⌝ }
 {
-    let p = at + channel_place(s);
-    let t = wide(tunnel);
-    b[p + t]
+    channel_place(side) + wide(tunnel)
 }
 
-// The channel that a signal is for; 0 for a signal that is for none.
-fn channel_for(b: &[u8], at: usize, s: Side, x: Signal) -> u8
-    requires { ⌜ at + 614 ≤ length (now b) ⌝ }
-    ensures { λ r. ⌜ r ≡ channelFor x (endOf s (callAt (now (b .entry)) at) .channels) ⌝ }
+// ---- signals by their numbers
+
+// Whether a signal is on the list of ordinary signals.
+fn is_ordinary(signal: u8, tunnel: u8, code: u8) -> bool
+    ensures { λ r. ⌜ r ≡ isOrdinary tunnel (statusSaid signal code) ⌝ }
 {
-    match x {
-        Signal::Upack => 0,
-        Signal::Ordinary(tunnel, _) => channel_at(b, at, s, tunnel),
-        Signal::Teardown => 0,
-        Signal::Downack => 0,
+    if signal == 3 {
+        return tunnel == 0;
     }
+    if signal == 4 {
+        return tunnel == 0;
+    }
+    if signal == 5 {
+        return tunnel == 0;
+    }
+    if signal == 6 {
+        return tunnel == 0;
+    }
+    if signal == 7 {
+        if 0 < tunnel {
+            return code < 12;
+        }
+        return false;
+    }
+    if signal == 8 {
+        return true;
+    }
+    if signal == 11 {
+        return true;
+    }
+    if signal == 12 {
+        return true;
+    }
+    if signal == 13 {
+        return true;
+    }
+    if signal == 14 {
+        return true;
+    }
+    if signal == 15 {
+        return true;
+    }
+    signal == 16
 }
 
-fn head_at(b: &[u8], at: usize, s: Side) -> Signal
-    requires { ⌜ at + 614 ≤ length (now b) ⌝ }
-    ensures { λ r. ⌜ r ≡ slot (queueTo s (callAt (now (b .entry)) at) .slots) 0 .signal ⌝ }
+// What a signal is to a channel: open to closeack are 0 to 5, a status of a channel is 6, one of tunnel 0 is 7.
+fn channel_kind(signal: u8) -> u8
+    ensures { λ r. ⌜ r ≡ kindOf (statusSaid signal 0) ⌝ }
 {
-    let q = at + queue_to(s);
-    signalbytes::signal_said(b[q + 1], b[q + 2], b[q + 3])
+    if signal == 3 {
+        return 7;
+    }
+    if signal == 4 {
+        return 7;
+    }
+    if signal == 5 {
+        return 7;
+    }
+    if signal == 6 {
+        return 7;
+    }
+    if signal == 11 {
+        return 0;
+    }
+    if signal == 12 {
+        return 1;
+    }
+    if signal == 13 {
+        return 2;
+    }
+    if signal == 14 {
+        return 3;
+    }
+    if signal == 15 {
+        return 4;
+    }
+    if signal == 16 { 5 } else { 6 }
+}
+
+// Only dtmf and special have a code.
+fn kept_code(signal: u8, code: u8) -> u8
+    ensures { λ r. ⌜ r ≡ cond (eqb signal 7) code (cond (eqb signal 8) code 0) ⌝ }
+{
+    if signal == 7 {
+        return code;
+    }
+    if signal == 8 { code } else { 0 }
+}
+
+// The caller opens odd tunnels, the callee even ones.
+fn opens(side: u8, tunnel: u8) -> bool
+    ensures { λ r. ⌜ r ≡ opens (sideOf side) tunnel ⌝ }
+{
+    let odd = tunnel % 2 == 1;
+    if side == 0 { odd } else { !odd }
+}
+
+// The next state of a signal's channel, as it is sent or taken; 9 where there is no step. Tunnel 0 has no channel.
+fn next_channel(side: u8, sends: bool, tunnel: u8, signal: u8, channel: u8) -> u8
+    ensures { λ r. ⌜ r ≡ nextIn (sideOf side) sends tunnel signal channel ⌝ }
+{
+    if tunnel == 0 {
+        return 0;
+    }
+    channels::follows(opens(side, tunnel), sends, channel, channel_kind(signal))
+}
+
+// Whether a signal is fit for its channel, by the channel's next state. Tunnel 0 takes all but channel signals.
+fn fits(tunnel: u8, signal: u8, next: u8) -> bool
+    ensures { λ r. ⌜ r ≡ fitsIn tunnel signal next ⌝ }
+{
+    if tunnel == 0 {
+        return 5 < channel_kind(signal);
+    }
+    next != 9
 }
 
 // ---- a record changed where it stands
 
-// A side's end goes on.
-fn settle(row: &mut [u8], at: usize, s: Side, state: State)
-    requires { ⌜ at + 614 ≤ length (now row) ⌝ }
-    ensures { λ _. ⌜ now (row .exit) ≡ settledAt (now (row .entry)) at s state ⌝ }
+// A channel goes on. Tunnel 0 has none.
+fn touch(row: &mut [u8], p: usize, tunnel: u8, next: u8)
+    requires { ⌜ p < length (now row) ⌝ }
+    ensures { λ _. ⌜ now (row .exit) ≡ cond (eqb tunnel 0) (now (row .entry)) (set (now (row .entry)) p next) ⌝ }
 {
-    let n = state_place(s);
-    row[at + n] = signalbytes::state_number(state);
-}
-
-// A channel goes on.
-fn touch_tunnel(row: &mut [u8], at: usize, s: Side, sends: bool, tunnel: u8, status: Status)
-    requires { ⌜ at + 614 ≤ length (now row) ⌝ }
-    ensures { λ _. ⌜ now (row .exit) ≡ touchedAt (now (row .entry)) at s sends tunnel status ⌝ }
-{
-    let p = at + channel_place(s);
-    let t = wide(tunnel);
-    let n = row[p + t];
-    row[p + t] = ends::next_with(s, sends, tunnel, status, n);
-}
-
-// A signal that is sent, or taken, passes the channel of its tunnel.
-fn touch(row: &mut [u8], at: usize, s: Side, sends: bool, x: Signal)
-    requires { ⌜ at + 614 ≤ length (now row) ⌝ }
-    ensures { λ _. ⌜ now (row .exit) ≡ passedAt (now (row .entry)) at s sends x ⌝ }
-{
-    match x {
-        Signal::Upack => {}
-        Signal::Teardown => {}
-        Signal::Downack => {}
-        Signal::Ordinary(tunnel, status) => {
-            if tunnel == 0 {
-                return;
-            }
-            touch_tunnel(row, at, s, sends, tunnel, status);
-        }
+    if tunnel == 0 {
+        return;
     }
+    row[p] = next;
 }
 
 // One signal more in the queue that begins at q.
-fn push(row: &mut [u8], q: usize, x: Signal)
+fn push(row: &mut [u8], q: usize, signal: u8, tunnel: u8, code: u8)
     requires { ⌜ (q + 49 ≤ length (now row)) × (getD (now row) q 0 < 16) ⌝ }
-    ensures { λ _. ⌜ now (row .exit) ≡ pushedAt (now (row .entry)) q x ⌝ }
+    ensures { λ _. ⌜ now (row .exit) ≡ putAt (now (row .entry)) q (signal ∷ tunnel ∷ code ∷ []) ⌝ }
 {
     let n = row[q];
     let at = q + 1 + 3 * (n as usize);
-    row[at] = signalbytes::signal_number(x);
-    row[at + 1] = signalbytes::signal_tunnel(x);
-    row[at + 2] = signalbytes::signal_code(x);
+    row[at] = signal;
+    row[at + 1] = tunnel;
+    row[at + 2] = code;
     row[q] = n + 1;
 }
 
@@ -179,171 +236,310 @@ fn pop(row: &mut [u8], q: usize)
     row[q] = n - 1;
 }
 
+// ---- answers
+
+// A signal handed over, as a word: 0, 1, and the signal's three numbers, a byte each from the lowest on.
+fn handed(signal: u8, tunnel: u8, code: u8) -> u64
+    ensures { λ r. ⌜ inWord r ≡ handedOver signal tunnel code ⌝ }
+{
+    256 + 65536 * (signal as u64) + 16777216 * (tunnel as u64) + 4294967296 * (code as u64)
+}
+
+// The numbers of a word.
+pub fn answer_in(word: u64) -> Commanded
+    ensures { λ r. ⌜ r ≡ inWord word ⌝ }
+{
+    Commanded {
+        number: word % 256,
+        delivered: word / 256 % 256,
+        signal: word / 65536 % 256,
+        tunnel: word / 16777216 % 256,
+        code: word / 4294967296 % 256,
+    }
+}
+
+// ---- what the ends do. A refusal is the word that is its number.
+
+// A waiting callee answers: it is linked, and sends upack.
+fn accept(row: &mut [u8], at: usize) -> u64
+    requires { ⌜ at + 614 ≤ length (now row) ⌝ }
+    ensures { λ z. ⌜ (inWord z ≡ commandedSaid (actedAt (now (row .entry)) at Accept .answer)) × (now (row .exit) ≡ actedAt (now (row .entry)) at Accept .bytes) ⌝ }
+{
+    if row[at + 1] != 2 {
+        return 12;
+    }
+    if 15 < row[at + 4] {
+        return 17;
+    }
+    row[at + 1] = 3;
+    push(row, at + 4, 2, 0, 0);
+    0
+}
+
+// A waiting callee does not take the call: it sends upack, a status and teardown, all three or none, and is unlinking.
+fn three_sent(row: &mut [u8], at: usize, status: u8) -> u64
+    requires { ⌜ (at + 614 ≤ length (now row)) × (statusNumber (statusSaid status 0) ≡ status) × (statusCode (statusSaid status 0) ≡ 0) ⌝ }
+    ensures { λ z. ⌜ (inWord z ≡ commandedSaid (threeSentAt (now (row .entry)) at (answers (stateSaid (getD (now (row .entry)) (at + 1) 0)) Unlinking) (statusSaid status 0) .answer))
+        × (now (row .exit) ≡ threeSentAt (now (row .entry)) at (answers (stateSaid (getD (now (row .entry)) (at + 1) 0)) Unlinking) (statusSaid status 0) .bytes) ⌝ }
+{
+    if row[at + 1] != 2 {
+        return 12;
+    }
+    if 13 < row[at + 4] {
+        return 17;
+    }
+    row[at + 1] = 4;
+    push(row, at + 4, 2, 0, 0);
+    push(row, at + 4, status, 0, 0);
+    push(row, at + 4, 9, 0, 0);
+    0
+}
+
+// A linked end sends teardown, and is unlinking.
+fn teardown(row: &mut [u8], at: usize, side: u8) -> u64
+    requires { ⌜ at + 614 ≤ length (now row) ⌝ }
+    ensures { λ z. ⌜ (inWord z ≡ commandedSaid (actedAt (now (row .entry)) at (Hang-up (sideOf side)) .answer)) × (now (row .exit) ≡ actedAt (now (row .entry)) at (Hang-up (sideOf side)) .bytes) ⌝ }
+{
+    let n = state_place(side);
+    if row[at + n] != 3 {
+        return 12;
+    }
+    let q = at + queue_from(side);
+    if 15 < row[q] {
+        return 17;
+    }
+    row[at + n] = 4;
+    push(row, q, 9, 0, 0);
+    0
+}
+
+// Why a channel does not send it.
+fn forbidden(signal: u8) -> u64
+    ensures { λ r. ⌜ r ≡ cond (eqb signal 11) 40 41 ⌝ }
+{
+    if signal == 11 { 40 } else { 41 }
+}
+
+// A linked end sends an ordinary signal.
+fn send(row: &mut [u8], at: usize, side: u8, signal: u8, tunnel: u8, code: u8) -> u64
+    requires { ⌜ at + 614 ≤ length (now row) ⌝ }
+    ensures { λ z. ⌜ (inWord z ≡ commandedSaid (actedAt (now (row .entry)) at (Send (sideOf side) tunnel (statusSaid signal code)) .answer))
+        × (now (row .exit) ≡ actedAt (now (row .entry)) at (Send (sideOf side) tunnel (statusSaid signal code)) .bytes) ⌝ }
+{
+    let n = state_place(side);
+    if row[at + n] != 3 {
+        return 12;
+    }
+    let ordinary = is_ordinary(signal, tunnel, code);
+    if !ordinary {
+        return 15;
+    }
+    let p = at + tunnel_place(side, tunnel);
+    let next = next_channel(side, true, tunnel, signal, row[p]);
+    let fit = fits(tunnel, signal, next);
+    if !fit {
+        return forbidden(signal);
+    }
+    let q = at + queue_from(side);
+    if 13 < row[q] {
+        return 13;
+    }
+    touch(row, p, tunnel, next);
+    push(row, q, signal, tunnel, kept_code(signal, code));
+    0
+}
+
+// ---- deliveries, by the signal at the head of the queue
+
+// A requesting end takes upack, and is linked.
+fn deliver_upack(row: &mut [u8], at: usize, side: u8) -> u64
+    requires { ⌜ (at + 614 ≤ length (now row)) × (0 < queueTo (sideOf side) (callAt (now row) at) .count) × (queueTo (other (sideOf side)) (callAt (now row) at) .count ≤ 16)
+        × (slot (queueTo (sideOf side) (callAt (now row) at) .slots) 0 .signal ≡ Upack) ⌝ }
+    ensures { λ z. ⌜ (inWord z ≡ commandedSaid (actedAt (now (row .entry)) at (Deliver (sideOf side)) .answer)) × (now (row .exit) ≡ actedAt (now (row .entry)) at (Deliver (sideOf side)) .bytes) ⌝ }
+{
+    let n = state_place(side);
+    if row[at + n] != 1 {
+        return 17;
+    }
+    row[at + n] = 3;
+    let q = at + queue_to(side);
+    pop(row, q);
+    handed(2, 0, 0)
+}
+
+// An unlinking end takes downack, and is idle.
+fn deliver_downack(row: &mut [u8], at: usize, side: u8) -> u64
+    requires { ⌜ (at + 614 ≤ length (now row)) × (0 < queueTo (sideOf side) (callAt (now row) at) .count) × (queueTo (other (sideOf side)) (callAt (now row) at) .count ≤ 16)
+        × (slot (queueTo (sideOf side) (callAt (now row) at) .slots) 0 .signal ≡ Downack) ⌝ }
+    ensures { λ z. ⌜ (inWord z ≡ commandedSaid (actedAt (now (row .entry)) at (Deliver (sideOf side)) .answer)) × (now (row .exit) ≡ actedAt (now (row .entry)) at (Deliver (sideOf side)) .bytes) ⌝ }
+{
+    let n = state_place(side);
+    if row[at + n] < 4 {
+        return 17;
+    }
+    row[at + n] = 0;
+    let q = at + queue_to(side);
+    pop(row, q);
+    handed(10, 0, 0)
+}
+
+// Where a teardown leads: a linked end is idle, an unlinking one stays.
+fn torn(state: u8) -> u8
+    ensures { λ r. ⌜ r ≡ cond (eqb state 3) 0 4 ⌝ }
+{
+    if state == 3 { 0 } else { 4 }
+}
+
+// A linked or unlinking end takes teardown, and sends downack.
+fn deliver_teardown(row: &mut [u8], at: usize, side: u8) -> u64
+    requires { ⌜ (at + 614 ≤ length (now row)) × (0 < queueTo (sideOf side) (callAt (now row) at) .count) × (queueTo (other (sideOf side)) (callAt (now row) at) .count ≤ 16)
+        × (slot (queueTo (sideOf side) (callAt (now row) at) .slots) 0 .signal ≡ Teardown) ⌝ }
+    ensures { λ z. ⌜ (inWord z ≡ commandedSaid (actedAt (now (row .entry)) at (Deliver (sideOf side)) .answer)) × (now (row .exit) ≡ actedAt (now (row .entry)) at (Deliver (sideOf side)) .bytes) ⌝ }
+{
+    let n = state_place(side);
+    let state = row[at + n];
+    if state < 3 {
+        return 17;
+    }
+    let f = at + queue_from(side);
+    if 15 < row[f] {
+        return 17;
+    }
+    row[at + n] = torn(state);
+    let q = at + queue_to(side);
+    pop(row, q);
+    push(row, f, 10, 0, 0);
+    handed(9, 0, 0)
+}
+
+// The number of a state from linked on: a number past the last stands for the last.
+fn stays(state: u8) -> u8
+    ensures { λ r. ⌜ r ≡ cond (eqb state 3) 3 4 ⌝ }
+{
+    if state == 3 { 3 } else { 4 }
+}
+
+// A linked or unlinking end takes an ordinary signal that is fit for its channel.
+fn deliver_ordinary(row: &mut [u8], at: usize, side: u8) -> u64
+    requires { ⌜ (at + 614 ≤ length (now row)) × (0 < queueTo (sideOf side) (callAt (now row) at) .count) × (queueTo (other (sideOf side)) (callAt (now row) at) .count ≤ 16)
+        × (slot (queueTo (sideOf side) (callAt (now row) at) .slots) 0 .signal
+        ≡ Ordinary (getD (now row) (at + queuePlace (sideOf side) + 2) 0) (statusSaid (getD (now row) (at + queuePlace (sideOf side) + 1) 0) (getD (now row) (at + queuePlace (sideOf side) + 3) 0))) ⌝ }
+    ensures { λ z. ⌜ (inWord z ≡ commandedSaid (actedAt (now (row .entry)) at (Deliver (sideOf side)) .answer)) × (now (row .exit) ≡ actedAt (now (row .entry)) at (Deliver (sideOf side)) .bytes) ⌝ }
+{
+    let n = state_place(side);
+    let state = row[at + n];
+    if state < 3 {
+        return 17;
+    }
+    let q = at + queue_to(side);
+    let signal = row[q + 1];
+    let tunnel = row[q + 2];
+    let code = row[q + 3];
+    let ordinary = is_ordinary(signal, tunnel, code);
+    if !ordinary {
+        return 17;
+    }
+    let p = at + tunnel_place(side, tunnel);
+    let next = next_channel(side, false, tunnel, signal, row[p]);
+    let fit = fits(tunnel, signal, next);
+    if !fit {
+        return 17;
+    }
+    row[at + n] = stays(state);
+    touch(row, p, tunnel, next);
+    pop(row, q);
+    handed(signal, tunnel, kept_code(signal, code))
+}
+
+// The head of the queue towards a side's end is handed over.
+fn deliver(row: &mut [u8], at: usize, side: u8) -> u64
+    requires { ⌜ (at + 614 ≤ length (now row)) × (queueTo (other (sideOf side)) (callAt (now row) at) .count ≤ 16) ⌝ }
+    ensures { λ z. ⌜ (inWord z ≡ commandedSaid (actedAt (now (row .entry)) at (Deliver (sideOf side)) .answer)) × (now (row .exit) ≡ actedAt (now (row .entry)) at (Deliver (sideOf side)) .bytes) ⌝ }
+{
+    let q = at + queue_to(side);
+    if row[q] == 0 {
+        return 14;
+    }
+    let signal = row[q + 1];
+    if signal == 9 {
+        return deliver_teardown(row, at, side);
+    }
+    if signal == 10 {
+        return deliver_downack(row, at, side);
+    }
+    if signal == 2 {
+        return deliver_upack(row, at, side);
+    }
+    if signal == 0 {
+        return deliver_upack(row, at, side);
+    }
+    deliver_ordinary(row, at, side)
+}
+
 // ---- a step
 
-// A side's end goes on and sends one signal.
-fn one_sent(row: &mut [u8], at: usize, s: Side, v: Verdict, x: Signal) -> Answer
-    requires { ⌜ at + 614 ≤ length (now row) ⌝ }
-    ensures { λ z. ⌜ (z ≡ oneSentAt (now (row .entry)) at s v x .answer) × (now (row .exit) ≡ oneSentAt (now (row .entry)) at s v x .bytes) ⌝ }
+// The signal of a command that sends: an unknown command sends none that may be sent.
+fn sent_by(kind: u8, signal: u8) -> u8
+    ensures { λ r. ⌜ r ≡ cond (eqb kind 3) signal 1 ⌝ }
 {
-    match v {
-        Verdict::Refuse(r) => Answer::Refused(r),
-        Verdict::Become(state) => {
-            let q = at + queue_from(s);
-            if 15 < row[q] {
-                return Answer::Refused(Refusal::BrokenRecord);
-            }
-            settle(row, at, s, state);
-            touch(row, at, s, true, x);
-            push(row, q, x);
-            Answer::Accepted
-        }
+    if kind == 3 { signal } else { 1 }
+}
+
+// A command for a record whose counts are at most 16.
+fn act(row: &mut [u8], at: usize, kind: u8, side: u8, signal: u8, tunnel: u8, code: u8) -> u64
+    requires { ⌜ (at + 614 ≤ length (now row)) × (queueTo (other (sideOf side)) (callAt (now row) at) .count ≤ 16) ⌝ }
+    ensures { λ z. ⌜ (inWord z ≡ commandedSaid (actedAt (now (row .entry)) at (commandOf kind side signal tunnel code) .answer)) × (now (row .exit) ≡ actedAt (now (row .entry)) at (commandOf kind side signal tunnel code) .bytes) ⌝ }
+{
+    if kind == 0 {
+        return accept(row, at);
     }
-}
-
-// The callee goes on and sends upack, a status and teardown; all three or none.
-fn three_sent(row: &mut [u8], at: usize, v: Verdict, status: Status) -> Answer
-    requires { ⌜ at + 614 ≤ length (now row) ⌝ }
-    ensures { λ z. ⌜ (z ≡ threeSentAt (now (row .entry)) at v status .answer) × (now (row .exit) ≡ threeSentAt (now (row .entry)) at v status .bytes) ⌝ }
-{
-    match v {
-        Verdict::Refuse(r) => Answer::Refused(r),
-        Verdict::Become(state) => {
-            let q = at + 4;
-            if 13 < row[q] {
-                return Answer::Refused(Refusal::BrokenRecord);
-            }
-            settle(row, at, Side::Callee, state);
-            push(row, q, Signal::Upack);
-            push(row, q, Signal::Ordinary(0, status));
-            push(row, q, Signal::Teardown);
-            Answer::Accepted
-        }
+    if kind == 1 {
+        return three_sent(row, at, 5);
     }
-}
-
-fn accept(row: &mut [u8], at: usize) -> Answer
-    requires { ⌜ at + 614 ≤ length (now row) ⌝ }
-    ensures { λ z. ⌜ (z ≡ actedAt (now (row .entry)) at Command.Accept .answer) × (now (row .exit) ≡ actedAt (now (row .entry)) at Command.Accept .bytes) ⌝ }
-{
-    let v = ends::answer_with(state_at(row, at, Side::Callee), State::Linked);
-    one_sent(row, at, Side::Callee, v, Signal::Upack)
-}
-
-fn busy(row: &mut [u8], at: usize) -> Answer
-    requires { ⌜ at + 614 ≤ length (now row) ⌝ }
-    ensures { λ z. ⌜ (z ≡ actedAt (now (row .entry)) at Command.Busy .answer) × (now (row .exit) ≡ actedAt (now (row .entry)) at Command.Busy .bytes) ⌝ }
-{
-    let v = ends::answer_with(state_at(row, at, Side::Callee), State::Unlinking);
-    three_sent(row, at, v, Status::Unavail)
-}
-
-fn unobtainable(row: &mut [u8], at: usize) -> Answer
-    requires { ⌜ at + 614 ≤ length (now row) ⌝ }
-    ensures { λ z. ⌜ (z ≡ actedAt (now (row .entry)) at Command.Unobtainable .answer) × (now (row .exit) ≡ actedAt (now (row .entry)) at Command.Unobtainable .bytes) ⌝ }
-{
-    let v = ends::answer_with(state_at(row, at, Side::Callee), State::Unlinking);
-    three_sent(row, at, v, Status::Unknown)
-}
-
-fn send(row: &mut [u8], at: usize, s: Side, tunnel: u8, status: Status) -> Answer
-    requires { ⌜ at + 614 ≤ length (now row) ⌝ }
-    ensures { λ z. ⌜ (z ≡ actedAt (now (row .entry)) at (Command.Send s tunnel status) .answer) × (now (row .exit) ≡ actedAt (now (row .entry)) at (Command.Send s tunnel status) .bytes) ⌝ }
-{
-    let q = at + queue_from(s);
-    let waiting = row[q];
-    let channel = channel_at(row, at, s, tunnel);
-    let v = ends::speak_with(state_at(row, at, s), s, tunnel, status, channel, waiting);
-    one_sent(row, at, s, v, Signal::Ordinary(tunnel, status))
-}
-
-fn teardown(row: &mut [u8], at: usize, s: Side) -> Answer
-    requires { ⌜ at + 614 ≤ length (now row) ⌝ }
-    ensures { λ z. ⌜ (z ≡ actedAt (now (row .entry)) at (Command.Teardown s) .answer) × (now (row .exit) ≡ actedAt (now (row .entry)) at (Command.Teardown s) .bytes) ⌝ }
-{
-    let v = ends::tear_with(state_at(row, at, s));
-    one_sent(row, at, s, v, Signal::Teardown)
-}
-
-// A side's end goes on, a signal passes its channel, and the head of the queue towards it goes out.
-fn given(row: &mut [u8], at: usize, s: Side, state: State, x: Signal)
-    requires { ⌜ (at + 614 ≤ length (now row)) × (0 < queueTo s (callAt (now row) at) .count) ⌝ }
-    ensures { λ _. ⌜ now (row .exit) ≡ givenAt (now (row .entry)) at s state x ⌝ }
-{
-    settle(row, at, s, state);
-    touch(row, at, s, false, x);
-    let q = at + queue_to(s);
-    pop(row, q);
-}
-
-// A signal handed over, and a teardown answered by a downack.
-fn replied(row: &mut [u8], at: usize, s: Side, state: State, x: Signal) -> Answer
-    requires { ⌜ (at + 614 ≤ length (now row)) × (0 < queueTo s (callAt (now row) at) .count) ⌝ }
-    ensures { λ z. ⌜ (z ≡ repliedAt (now (row .entry)) at s state x .answer) × (now (row .exit) ≡ repliedAt (now (row .entry)) at s state x .bytes) ⌝ }
-{
-    match x {
-        Signal::Upack => given(row, at, s, state, x),
-        Signal::Ordinary(_, _) => given(row, at, s, state, x),
-        Signal::Downack => given(row, at, s, state, x),
-        Signal::Teardown => {
-            let q = at + queue_from(s);
-            if 15 < row[q] {
-                return Answer::Refused(Refusal::BrokenRecord);
-            }
-            given(row, at, s, state, x);
-            push(row, q, Signal::Downack);
-        }
+    if kind == 2 {
+        return three_sent(row, at, 3);
     }
-    Answer::Delivered(x)
-}
-
-fn deliver(row: &mut [u8], at: usize, s: Side) -> Answer
-    requires { ⌜ (at + 614 ≤ length (now row)) × (queueTo (other s) (callAt (now row) at) .count ≤ 16) ⌝ }
-    ensures { λ z. ⌜ (z ≡ actedAt (now (row .entry)) at (Command.Deliver s) .answer) × (now (row .exit) ≡ actedAt (now (row .entry)) at (Command.Deliver s) .bytes) ⌝ }
-{
-    let q = at + queue_to(s);
-    if row[q] == 0 {
-        return Answer::Refused(Refusal::NothingWaiting);
+    if kind == 4 {
+        return teardown(row, at, side);
     }
-    let x = head_at(row, at, s);
-    let channel = channel_for(row, at, s, x);
-    let v = ends::take_with(state_at(row, at, s), s, x, channel);
-    match v {
-        Verdict::Refuse(r) => Answer::Refused(r),
-        Verdict::Become(state) => replied(row, at, s, state, x),
+    if kind == 5 {
+        return deliver(row, at, side);
     }
+    send(row, at, side, sent_by(kind, signal), tunnel, code)
 }
 
 // A command for a record whose bytes are there.
-fn step_in(row: &mut [u8], at: usize, k: Command) -> Answer
+fn step_in(row: &mut [u8], at: usize, kind: u8, side: u8, signal: u8, tunnel: u8, code: u8) -> u64
     requires { ⌜ at + 614 ≤ length (now row) ⌝ }
-    ensures { λ z. ⌜ (z ≡ stepAt (now (row .entry)) at k .answer) × (now (row .exit) ≡ stepAt (now (row .entry)) at k .bytes) ⌝ }
+    ensures { λ z. ⌜ (inWord z ≡ commandedSaid (stepAt (now (row .entry)) at (commandOf kind side signal tunnel code) .answer)) × (now (row .exit) ≡ stepAt (now (row .entry)) at (commandOf kind side signal tunnel code) .bytes) ⌝ }
 {
     if 16 < row[at + 4] {
-        return Answer::Refused(Refusal::BrokenRecord);
+        return 17;
     }
     if 16 < row[at + 53] {
-        return Answer::Refused(Refusal::BrokenRecord);
+        return 17;
     }
-    match k {
-        Command::Accept => accept(row, at),
-        Command::Busy => busy(row, at),
-        Command::Unobtainable => unobtainable(row, at),
-        Command::Send(s, tunnel, status) => send(row, at, s, tunnel, status),
-        Command::Teardown(s) => teardown(row, at, s),
-        Command::Deliver(s) => deliver(row, at, s),
-    }
+    act(row, at, kind, side, signal, tunnel, code)
 }
 
-// A command for the record of the 614 bytes from a place on; 10 where there are fewer.
-pub fn command_at(row: &mut [u8], at: usize, k: Command) -> Answer
-    ensures { λ z. ⌜ (z ≡ commandAt (now (row .entry)) at k .answer) × (now (row .exit) ≡ commandAt (now (row .entry)) at k .bytes) ⌝ }
+// A command for the record of the 614 bytes from a place on; 10 where there are fewer. The answer is a word of five bytes.
+pub fn command_at(
+    row: &mut [u8],
+    at: usize,
+    kind: u8,
+    side: u8,
+    signal: u8,
+    tunnel: u8,
+    code: u8,
+) -> u64
+    ensures { λ z. ⌜ (inWord z ≡ commandedSaid (commandAt (now (row .entry)) at (commandOf kind side signal tunnel code) .answer)) × (z < 1099511627776)
+        × (now (row .exit) ≡ commandAt (now (row .entry)) at (commandOf kind side signal tunnel code) .bytes) ⌝ }
 {
     if row.len() < at {
-        return Answer::Refused(Refusal::NoSuchCall);
+        return 10;
     }
     if row.len() - at < 614 {
-        return Answer::Refused(Refusal::NoSuchCall);
+        return 10;
     }
-    step_in(row, at, k)
+    step_in(row, at, kind, side, signal, tunnel, code) % 1099511627776
 }

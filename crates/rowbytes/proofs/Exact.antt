@@ -12,21 +12,16 @@ use Rattle.plan.specs.declared.Plan.{Plan}
 use Rattle.plan.specs.declared.Seen.{Seen}
 use Rattle.plan.specs.Find.{seen}
 use Rattle.setup.specs.declared.Setup.{Setup}
-use Rattle.call.specs.declared.Answer.{Answer}
-use Rattle.call.specs.declared.Answer.the-variants.{Accepted}
-use Rattle.call.specs.declared.Command.{Command}
-use Rattle.call.specs.Row.{Reply, placed-at, says}
 use Rattle.refusal.specs.declared.Refusal.{Refusal}
 use Rattle.routing.specs.declared.Outcome.the-variants.{Refused}
 use Rattle.routing.specs.Steps.{target1}
 use Rattle.routing.specs.Places.{isRouted}
 use Rattle.placing.specs.declared.Placed.{Placed}
+use Rattle.recordbytes.specs.declared.Commanded.{Commanded}
 use Rattle.rowbytes.proofs.lowest_free.Reads as lowest-free
 use Rattle.rowbytes.proofs.lowest_free.Kinds as lowest-free-kinds
 use Rattle.rowbytes.proofs.clear.Reads as clear
 use Rattle.rowbytes.proofs.clear.Kinds as clear-kinds
-use Rattle.rowbytes.proofs.command_for.Reads as command-for
-use Rattle.rowbytes.proofs.command_for.Kinds as command-for-kinds
 use Rattle.rowbytes.proofs.command.Reads as command
 use Rattle.rowbytes.proofs.command.Kinds as command-kinds
 use Rattle.rowbytes.proofs.place.Reads as place
@@ -44,14 +39,9 @@ pub clear-exact : (κs : Lfts 1) (row : RefT (List ℕ)) (end end′ : AtExit (e
     → clear.Post κs (row, tt) r end → clear.Post κs (row, tt) s end′ → end .0 .now ≡ end′ .0 .now
 clear-exact κs row end end′ r s p q = p .0 ∙ sym (q .0)
 
-answerOf : Reply → Answer
-answerOf (says a) = a
-answerOf (placed-at r n) = Accepted
-
-pub command-exact : (κs : Lfts 1) (row : RefT (List ℕ)) (i u : ℕ) (k : Command) (end end′ : AtExit (endedOf 1 command-kinds.ps command-kinds.r) κs) (r s : Answer)
-    → command.Post κs (row, (i, (u, (k, tt)))) r end → command.Post κs (row, (i, (u, (k, tt)))) s end′ → (r ≡ s) × (end .0 .now ≡ end′ .0 .now)
-unfolding answerOf
-command-exact κs row i u k end end′ r s p q = (ap answerOf (p .0 ∙ sym (q .0)), p .1 ∙ sym (q .1))
+pub command-exact : (κs : Lfts 1) (row : RefT (List ℕ)) (i u kind side signal tunnel code : ℕ) (end end′ : AtExit (endedOf 1 command-kinds.ps command-kinds.r) κs) (r s : Commanded)
+    → command.Post κs (row, (i, (u, (kind, (side, (signal, (tunnel, (code, tt)))))))) r end → command.Post κs (row, (i, (u, (kind, (side, (signal, (tunnel, (code, tt)))))))) s end′ → (r ≡ s) × (end .0 .now ≡ end′ .0 .now)
+command-exact κs row i u kind side signal tunnel code end end′ r s p q = (p .0 ∙ sym (q .0), p .1 ∙ sym (q .1))
 
 -- where some plan shows it
 pub place-exact : (κs : Lfts 3) (kept : Bool) (row : RefT (List ℕ)) (v : Seen) (x : Setup) (sources targets : RefT (List ℕ)) (end end′ : AtExit (endedOf 3 place-kinds.ps place-kinds.r) κs) (r s : Placed)
@@ -63,9 +53,9 @@ place-exact κs kept row v x sources targets end end′ r s p q plan shows =
     let of-q = q .0 plan shows in
     (of-p .0 ∙ sym (of-q .0), of-p .1 ∙ sym (of-q .1), of-p .3 ∙ sym (of-q .3), of-p .4 ∙ sym (of-q .4))
 
-pub port-command-exact : (κs : Lfts 1) (port : RefT (List ℕ)) (k : Command) (end end′ : AtExit (endedOf 1 port-command-kinds.ps port-command-kinds.r) κs) (r s : Answer)
-    → port-command.Post κs (port, (k, tt)) r end → port-command.Post κs (port, (k, tt)) s end′ → (r ≡ s) × (end .0 .now ≡ end′ .0 .now)
-port-command-exact κs port k end end′ r s p q = (p .0 ∙ sym (q .0), p .1 ∙ sym (q .1))
+pub port-command-exact : (κs : Lfts 1) (port : RefT (List ℕ)) (kind side signal tunnel code : ℕ) (end end′ : AtExit (endedOf 1 port-command-kinds.ps port-command-kinds.r) κs) (r s : Commanded)
+    → port-command.Post κs (port, (kind, (side, (signal, (tunnel, (code, tt)))))) r end → port-command.Post κs (port, (kind, (side, (signal, (tunnel, (code, tt)))))) s end′ → (r ≡ s) × (end .0 .now ≡ end′ .0 .now)
+port-command-exact κs port kind side signal tunnel code end end′ r s p q = (p .0 ∙ sym (q .0), p .1 ∙ sym (q .1))
 
 pub port-place-exact : (κs : Lfts 3) (kept : Bool) (port : RefT (List ℕ)) (v : Seen) (x : Setup) (sources targets : RefT (List ℕ)) (end end′ : AtExit (endedOf 3 port-place-kinds.ps port-place-kinds.r) κs) (r s : Placed)
     → port-place.Post κs (kept, (port, (v, (x, (sources, (targets, tt)))))) r end → port-place.Post κs (kept, (port, (v, (x, (sources, (targets, tt)))))) s end′
@@ -86,7 +76,3 @@ pub port-place-kept : (κs : Lfts 3) (kept : Bool) (port : RefT (List ℕ)) (v :
     → port-place.Post κs (kept, (port, (v, (x, (sources, (targets, tt)))))) r end → r .routed .outcome ≡ Refused y
     → (end .1 .0 .now ≡ port .now) × (end .1 .1 .1 .1 .0 .now ≡ sources .now) × (end .1 .1 .1 .1 .1 .0 .now ≡ targets .now)
 port-place-kept κs kept port v x sources targets end r y p e = (p .1 .0 (ap isRouted e), p .1 .1 (ap isRouted e), p .1 .2 (ap isRouted e))
-
-pub command-for-exact : (κs : Lfts 1) (named : Bool) (row : RefT (List ℕ)) (i u : ℕ) (k : Command) (end end′ : AtExit (endedOf 1 command-for-kinds.ps command-for-kinds.r) κs) (r s : Answer)
-    → command-for.Post κs (named, (row, (i, (u, (k, tt))))) r end → command-for.Post κs (named, (row, (i, (u, (k, tt))))) s end′ → (r ≡ s) × (end .1 .0 .now ≡ end′ .1 .0 .now)
-command-for-exact κs named row i u k end end′ r s p q = (p .0 ∙ sym (q .0), p .1 ∙ sym (q .1))

@@ -2,11 +2,10 @@
 use mathlib.Core.Path.{_≡_, refl, sym, ap, subst, _∙_}
 use mathlib.Core.Bool.{Bool, true, false, cond, _&&_}
 use mathlib.Core.List.{List, [], _∷_}
-use Prim.Native.Nat.{ℕ, _+_, _*_, _%_, _≤_, _<_}
+use Prim.Native.Nat.{ℕ, _+_, _*_, _%_, _≤_, _<_, _/_}
 use native.Mathlib.Omega.{arith}
 use lib.ListN.{length, set}
-use lib.Seq.{set-getD, length-sets}
-use lib.Dec.{T as Holds, eqb, ltb}
+use lib.Dec.{eqb, ltb}
 use borrow.Author.Tests.{lt-ltb, le-ltb, ltb-true, le-leb}
 use Rattle.refusal.specs.declared.Refusal.{Refusal}
 use Rattle.refusal.specs.declared.Refusal.the-variants.{NoSuchCall, RowTooLong, NoFreeRecord}
@@ -20,7 +19,6 @@ use Rattle.routing.specs.declared.Later.the-variants.{Nothing, Refuse as refuse
 use Rattle.routing.specs.declared.Answer.{Answer}
 use Rattle.routing.specs.Routing.{outcomeBy, answerBy}
 use Rattle.routing.proofs.Zoned.{answer-outcome}
-use Rattle.ends.specs.declared.State.the-variants.{Requesting, Waiting}
 use Rattle.call.specs.declared.Call.{Call}
 use Rattle.call.specs.declared.Command.{Command}
 use Rattle.call.specs.declared.Command.the-variants.{Accept, Busy, Unobtainable, Send, Teardown as Hang-up, Deliver}
@@ -29,19 +27,19 @@ use Rattle.ends.specs.declared.Verdict.{Verdict}
 use Rattle.ends.specs.declared.Verdict.the-variants.{Refuse as refuse, Become as become}
 use Rattle.routing.specs.Places.{isRouted}
 use Rattle.typeset.proofs.Bools.{clash}
-use Rattle.call.specs.declared.Step.{Step}
 use Rattle.call.specs.declared.Answer as said
 use Rattle.call.specs.declared.Answer.the-variants.{Refused}
 use Rattle.call.specs.Protocol.{actor, waiting, hands, verdict, step, isFree, nextUse}
 use Rattle.call.specs.History.{accepted}
-use Rattle.call.specs.Row.{Turn, says, command, place, placeAt, recordAt, lowestFree, inUse, named, refuses, put, turn, granted}
+use Rattle.call.specs.Row.{Turn, says, command, recordAt, lowestFree, inUse, named, refuses, put, turn, granted}
 use Rattle.placing.specs.declared.Placed.{Placed}
 use Rattle.placing.specs.Rows.{laterBy, laterFor, outcomeInBy, answerInBy, turned, answered, placedInBy, rowAfterBy}
 use Rattle.placing.proofs.Settles.{routing-to, refusing-by, came-by, places}
 use Rattle.recordbytes.specs.Records.{callAt}
+use Rattle.recordbytes.specs.Numbers.{inWord}
 use Rattle.recordbytes.specs.Steps.{Stepped, outcomeAt, stepAt, commandAt}
 use Rattle.recordbytes.proofs.AsStep.{as-step, only-the-record}
-use Rattle.rowbytes.specs.Rows.{recordsIn, records, rowIn, commandedIn, placedBytes, placedBy}
+use Rattle.rowbytes.specs.Rows.{recordsIn, records, rowIn, commandedIn, placedBy}
 use Rattle.rowbytes.specs.Parts.{foundIn, commandedBy, putPlaced}
 use Rattle.rowbytes.specs.declared.Found.{Found}
 use Rattle.rowbytes.specs.declared.Found.the-variants.{Refuse, At}
@@ -267,3 +265,19 @@ module _ (b : List ℕ) (k : Command) (long : length b ≡ 614) where
 -- the record of the row of one that is left
 pub one-left : (z : List ℕ) {row : List Call} → length z ≡ 614 → rowIn z ≡ row → callAt z 0 ≡ recordAt row 0
 one-left z long e = ap (λ (l : List Call). recordAt l 0) (sym (one-record z long) ∙ e)
+
+-- ---- answers
+
+-- a word below 256 is a number, and says nothing else
+pub small-word : (n : ℕ) → n < 256 → inWord n ≡ record { number = n; delivered = 0; signal = 0; tunnel = 0; code = 0 }
+small-word n h =
+    let e0 : n % 256 ≡ n = omega (arith, h) in
+    let e1 : n / 256 % 256 ≡ 0 = omega (arith, h) in
+    let e2 : n / 65536 % 256 ≡ 0 = omega (arith, h) in
+    let e3 : n / 16777216 % 256 ≡ 0 = omega (arith, h) in
+    let e4 : n / 4294967296 % 256 ≡ 0 = omega (arith, h) in
+    λ i. record { number = e0 i; delivered = e1 i; signal = e2 i; tunnel = e3 i; code = e4 i }
+
+-- a command is answered by an answer, never by a placing
+pub never-placed : (b : List ℕ) (r u : ℕ) (k : Command) → turn (rowIn b) (command r u k) .reply ≡ says (commandedBy (foundIn true b r u) b k .answer)
+never-placed b r u k = sym (turns-as b r u k refl refl .0)

@@ -1,9 +1,8 @@
 // A row of calls, or a port's one, in lent bytes: 614 to a record, for programs in other languages (01 'Calls'). What a record does with a command is in `recordbytes`, and placing decides by its functions of values; here a
 // record is found, and a call placed in it. Nothing else is touched, and no refusal changes a byte.
-use call::Answer;
-use call::Command;
 use placing::Placed;
 use plan::Seen;
+use recordbytes::Commanded;
 use refusal::Refusal;
 use routing::Outcome;
 use setup::Setup;
@@ -19,10 +18,12 @@ ghost use Rattle.routing.specs.Steps.{target1};
 ghost use Rattle.routing.specs.Routing.{sourceList, targetList};
 ghost use Rattle.routing.specs.Places.{KeptBeside};
 ghost use Rattle.call.specs.Protocol.{isFree, step, cleared};
-ghost use Rattle.call.specs.Row.{lowestFree, recordAt, says, command as by-command, turn};
+ghost use Rattle.call.specs.declared.Answer.the-variants.{Refused};
+ghost use Rattle.call.specs.Row.{lowestFree, recordAt, command as by-command, turn};
 ghost use Rattle.placing.specs.Rows.{outcomeInBy, placedInBy, rowAfterBy, turned};
 ghost use Rattle.recordbytes.specs.Records.{callAt};
 ghost use Rattle.recordbytes.specs.Steps.{stepAt};
+ghost use Rattle.recordbytes.specs.Numbers.{commandOf, commandedSaid, replySaid, inWord};
 ghost use Rattle.rowbytes.specs.Rows.{recordsIn, rowIn, clearedIn, commandedIn, placedBy};
 ghost use Rattle.rowbytes.specs.Parts.{foundIn, commandedBy, putPlaced};
 
@@ -124,25 +125,52 @@ fn look(row: &[u8], named: bool, r: usize, use_number: u16) -> Found
     Found::At(0)
 }
 
-// A command for the record r and this use number; or, where it is not `named`, for a port's record, which is the first. Rows and ports share this function, so that the compiler puts all of a command into one.
-pub fn command_for(named: bool, row: &mut [u8], r: usize, use_number: u16, k: Command) -> Answer
-    ensures { λ z. ⌜ (z ≡ commandedBy (foundIn named (now (row .entry)) r «use_number») (now (row .entry)) k .answer)
-        × (now (row .exit) ≡ commandedBy (foundIn named (now (row .entry)) r «use_number») (now (row .entry)) k .bytes) ⌝ }
+// A refusal as a word: its number.
+fn refused(x: Refusal) -> u64
+    ensures { λ r. ⌜ inWord r ≡ commandedSaid (Refused x) ⌝ }
+{
+    x.number() as u64
+}
+
+// A command for the record r and this use number; or, where it is not `named`, for a port's record, which is the first. Rows and ports share this function, so that the compiler puts all of a command into one; the answer is one word, which stays in a register.
+fn command_for(
+    named: bool,
+    row: &mut [u8],
+    r: usize,
+    use_number: u16,
+    kind: u8,
+    side: u8,
+    signal: u8,
+    tunnel: u8,
+    code: u8,
+) -> u64
+    ensures { λ z. ⌜ (inWord z ≡ commandedSaid (commandedBy (foundIn named (now (row .entry)) r «use_number») (now (row .entry)) (commandOf kind side signal tunnel code) .answer))
+        × (now (row .exit) ≡ commandedBy (foundIn named (now (row .entry)) r «use_number») (now (row .entry)) (commandOf kind side signal tunnel code) .bytes) ⌝ }
 {
     let f = look(row, named, r, use_number);
     match f {
-        Found::Refuse(x) => Answer::Refused(x),
-        Found::At(at) => recordbytes::command_at(row, at, k),
+        Found::Refuse(x) => refused(x),
+        Found::At(at) => recordbytes::command_at(row, at, kind, side, signal, tunnel, code),
     }
 }
 
-// A command for the record r and this use number.
-pub fn command(row: &mut [u8], r: usize, use_number: u16, k: Command) -> Answer
-    ensures { λ z. ⌜ (says z ≡ turn (rowIn (now (row .entry))) (by-command r «use_number» k) .reply)
-        × (now (row .exit) ≡ commandedIn (now (row .entry)) r «use_number» k)
-        × (rowIn (now (row .exit)) ≡ turn (rowIn (now (row .entry))) (by-command r «use_number» k) .row) ⌝ }
+// A command for the record r and this use number. It is told by numbers (recordbytes/specs/Numbers), and so is the answer.
+pub fn command(
+    row: &mut [u8],
+    r: usize,
+    use_number: u16,
+    kind: u8,
+    side: u8,
+    signal: u8,
+    tunnel: u8,
+    code: u8,
+) -> Commanded
+    ensures { λ z. ⌜ (z ≡ replySaid (turn (rowIn (now (row .entry))) (by-command r «use_number» (commandOf kind side signal tunnel code)) .reply))
+        × (now (row .exit) ≡ commandedIn (now (row .entry)) r «use_number» (commandOf kind side signal tunnel code))
+        × (rowIn (now (row .exit)) ≡ turn (rowIn (now (row .entry))) (by-command r «use_number» (commandOf kind side signal tunnel code)) .row) ⌝ }
 {
-    command_for(true, row, r, use_number, k)
+    let word = command_for(true, row, r, use_number, kind, side, signal, tunnel, code);
+    recordbytes::answer_in(word)
 }
 
 // ---- placing
@@ -215,13 +243,21 @@ pub fn place(
 
 // ---- a port: a row of one
 
-// A command for the port's record.
-pub fn port_command(port: &mut [u8; 614], k: Command) -> Answer
-    ensures { λ z. ⌜ (z ≡ step (callAt (now (port .entry)) 0) k .answer)
-        × (now (port .exit) ≡ stepAt (now (port .entry)) 0 k .bytes)
-        × (callAt (now (port .exit)) 0 ≡ step (callAt (now (port .entry)) 0) k .call) ⌝ }
+// A command for the port's record, told by numbers as in a row.
+pub fn port_command(
+    port: &mut [u8; 614],
+    kind: u8,
+    side: u8,
+    signal: u8,
+    tunnel: u8,
+    code: u8,
+) -> Commanded
+    ensures { λ z. ⌜ (z ≡ commandedSaid (step (callAt (now (port .entry)) 0) (commandOf kind side signal tunnel code) .answer))
+        × (now (port .exit) ≡ stepAt (now (port .entry)) 0 (commandOf kind side signal tunnel code) .bytes)
+        × (callAt (now (port .exit)) 0 ≡ step (callAt (now (port .entry)) 0) (commandOf kind side signal tunnel code) .call) ⌝ }
 {
-    command_for(false, port, 0, 0, k)
+    let word = command_for(false, port, 0, 0, kind, side, signal, tunnel, code);
+    recordbytes::answer_in(word)
 }
 
 // A call is placed in the port's record, as in a row of one, by what a plan shows and a verdict on it; of what no plan shows as in a row.

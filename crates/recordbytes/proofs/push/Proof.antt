@@ -5,7 +5,7 @@ use Prim.Native.Nat.{ℕ, _+_, _*_}
 use native.Mathlib.Omega.{arith}
 use lib.ListN.{getD, set, length-set}
 use Rattle.recordbytes.proofs.Places.{put-three}
-use Rattle.recordbytes.specs.Steps.{pushedAt}
+use Rattle.recordbytes.specs.Parts.{putAt}
 use borrow.Author.Needs.{needs}
 use Rattle.recordbytes.proofs.push.Statement.{statement}
 use Rattle.recordbytes.proofs.push.Tie as tie
@@ -20,12 +20,11 @@ slice-write-row-4 : tie.Need-slice-write-row-4
 slice-write-row-4 c = simp length-set (omega arith)
 
 returns : tie.Need-returns
-unfolding pushedAt
+unfolding putAt
 returns c =
-    let a = c .before .before .before .before .before .args in
+    let a = c .before .args in
     let n = getD (a .row .now) (a .q) 0 in
-    rw (c .before .before .signal-number .ensures, c .before .signal-tunnel .ensures, c .signal-code .ensures)
-    (ap (λ (z : List ℕ). set z (a .q) (n + 1)) (put-three (a .row .now) (a .q + 1 + 3 * n) _ _ _))
+    ap (λ (z : List ℕ). set z (a .q) (n + 1)) (put-three (a .row .now) (a .q + 1 + 3 * n) _ _ _)
 
 pub push-spec : {M : Type 1} → statement M
 push-spec =
@@ -36,12 +35,9 @@ push-spec =
     (λ c. search needs)
     (λ c. search needs)
     (λ c. search needs)
-    (λ c κs. search needs)
     (λ c. search needs)
-    (λ c κs. search needs)
     (λ c. search needs)
     slice-write-row-2
-    (λ c κs. search needs)
     (λ c. search needs)
     slice-write-row-3
     (λ c. search needs)
