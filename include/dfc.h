@@ -1,7 +1,7 @@
 /* dfc.h: Plaivoreh's call-routing core for C programs.
  *
  * The archive libdfc.a (made by `rt staticlib dfc`, for x86-64 Linux) has the functions below. Each is proved to give exactly
- * the answer that document 01 gives, with the byte forms and numbers below, for any bytes and any numbers: no call crashes, hangs, allocates, keeps state between calls
+ * the answer that documents 01 and 02 give, with the byte forms and numbers below, for any bytes and any numbers: no call crashes, hangs, allocates, keeps state between calls
  * or looks at memory that it was not lent.
  *
  * MEMORY. The caller owns all of it. A function reads and writes only what is lent to it, for as long as the call lasts, and keeps
@@ -11,7 +11,7 @@
  * STACK. Have 256 kB of stack free for a call.
  * THREADS. Calls may run at the same time, unless one may write memory that another is lent; a plan that several only read is fine.
  *
- * ANSWERS. number 0: accepted, and value is what the function says. Any other number is a refusal of document 01:
+ * ANSWERS. number 0: accepted, and value is what the function says. Any other number is a refusal of documents 01 and 02:
  *    1  feature box whose type does not exist          9  an address argument above 999,999,999
  *    2  a box that may not make this setup            18  a list shorter than 32
  *    3  the box's address: not in the plan, or not    20  plan file cut short, or bytes after its end
@@ -32,9 +32,10 @@
  *                                                         signals sent
  *   40  open: tunnel 0, a used one, or the other       41  the channel's state forbids it; or oack to closeack
  *       side's to open                                     in tunnel 0
+ * 80, 81 and 82, of links, stand with their functions below.
  * For 20 to 25 value is the place: in a plan file the first byte of the field, counted from 0, or of what follows the end field. For the others it is 0.
- * Of several refusals the plan file's comes first, then the lowest number; routing has 5 before 18, placing 5, 18, 16, 11; a command
- * has 16, 10, then 17 for a count, 12, 15, 40, 41, 13, 14, and 17 for the rest.
+ * Of several refusals the plan file's comes first, then the lowest number; routing has 5 before 18, placing 5, 18, 16, 11; links have
+ * 82, 80, 81; a command has 16, 10, then 17 for a count, 12, 15, 40, 41, 13, 14, and 17 for the rest.
  *
  * EXAMPLE (host/example.c is a whole program that does this):
  *
@@ -211,6 +212,26 @@ dfc_commanded dfc_command(uint8_t *row, size_t row_size, size_t record_number, u
 dfc_placed dfc_port_place(const uint8_t *file, size_t file_size, const uint8_t *sent, size_t sent_size, uint8_t port[DFC_CALL],
                           uint8_t *source_list, size_t source_size, uint8_t *target_list, size_t target_size, uint8_t received[DFC_SETUP]);
 dfc_commanded dfc_port_command(uint8_t port[DFC_CALL], uint8_t kind, uint8_t side, uint8_t signal, uint8_t tunnel, uint8_t code);
+
+/* ---- links of a box: who hears whom (archive libdfc_links.a, made by `rt staticlib dfc_links`) */
+
+/* A set of links is 64 numbers: the links, strictly ascending, and 0 in every place that is left; 64 zeros are the empty set. A link is a one-way connection
+ * between channel terminations at two different ports of one box, as one number: sink port, sink channel, source port, source channel, 16 bits each, from high
+ * to low. Any port and any channel from 0 to 65,535 will do.
+ * Refusals, in this order, not by number:
+ *   82  set is not as above
+ *   80  add: both ends at one port
+ *   81  add: 64 links are held, and the new one is not among them */
+#define DFC_LINKS 64
+
+/* The link from source to sink added; one that is there changes nothing. value 0. Refusals 82, 80, 81. */
+dfc_answer dfc_links_add(uint64_t set[DFC_LINKS], uint16_t sink_port, uint16_t sink_channel, uint16_t source_port, uint16_t source_channel);
+/* The link from source to sink removed; one that is absent changes nothing. value 0. Refusal 82. */
+dfc_answer dfc_links_remove(uint64_t set[DFC_LINKS], uint16_t sink_port, uint16_t sink_channel, uint16_t source_port, uint16_t source_channel);
+/* Every link dropped that touches the port, as sink or as source; the links of other ports stay. value 0. Refusal 82. */
+dfc_answer dfc_links_drop(uint64_t set[DFC_LINKS], uint16_t port);
+/* The sources summed into the termination: sources[0] to sources[value - 1], strictly ascending, each port * 65536 + channel; 0 in the places left. Refusal 82. */
+dfc_answer dfc_links_sources(const uint64_t set[DFC_LINKS], uint16_t sink_port, uint16_t sink_channel, uint32_t sources[DFC_LINKS]);
 
 #ifdef __cplusplus
 }

@@ -1,0 +1,5 @@
+pub mod Links
+pub mod Sets
+pub mod Said
+pub mod History
+pub mod Steps
