@@ -232,6 +232,30 @@ dfc_answer dfc_links_remove(uint64_t set[DFC_LINKS], uint16_t sink_port, uint16_
 dfc_answer dfc_links_drop(uint64_t set[DFC_LINKS], uint16_t port);
 /* The sources summed into the termination: sources[0] to sources[value - 1], strictly ascending, each port * 65536 + channel; 0 in the places left. Refusal 82. */
 dfc_answer dfc_links_sources(const uint64_t set[DFC_LINKS], uint16_t sink_port, uint16_t sink_channel, uint32_t sources[DFC_LINKS]);
+/* WHO SUBSCRIBES TO A TYPE. The archive libdfc_index.a (`rt staticlib dfc_index`) has the functions below, with the same promises. It may be linked beside libdfc.a.
+ * An index is 64 rows of 257 numbers: row t for the type t in the source region, row 32 + t for the type t in the target region. A row has the addresses that subscribe to the type there,
+ * ascending, then 0 in each place left of 256, and in place 256 how many they are. Refusals:
+ *   45  the address is not in the plan                47  the index is not the plan's: some place differs
+ *   46  the new sets break a rule of the plan: a type outside its choice, or a reversible type in one set only
+ * value is 0 for these three. */
+#define DFC_INDEX_ROWS 64
+#define DFC_INDEX_PLACES 257
+typedef uint32_t dfc_index[DFC_INDEX_ROWS][DFC_INDEX_PLACES];
+
+typedef struct {
+    uint64_t row;   /* the addresses are index[row][0] to index[row][count - 1] */
+    uint64_t count;
+} dfc_listed;
+
+/* The index of a file's plan, whatever the memory held. Refusals 20 to 24. value is 0. */
+dfc_answer dfc_index_build(const uint8_t *file, size_t file_size, dfc_index index);
+
+/* Who subscribes to a type in a region (0 source, any other number target). Nothing is refused: for a type above 31 row and count are 0, and count is never above 256, whatever the memory holds. */
+dfc_listed dfc_index_look(const uint32_t index[DFC_INDEX_ROWS][DFC_INDEX_PLACES], uint8_t region, uint32_t type);
+
+/* The subscriber with this address is given two other sets (bit t for the type t): the file of the changed plan is written into the room, and the lists that change are changed in the index, which
+ * then is the one that is built from that file. value is the file's length, which does not change. Refusals 20 to 24; 25 where the room is shorter than the file (place 0); 45, 46, 47; in that order. */
+dfc_answer dfc_index_update(const uint8_t *file, size_t file_size, dfc_index index, uint32_t address, uint32_t source, uint32_t target, uint8_t *room, size_t room_size);
 
 #ifdef __cplusplus
 }

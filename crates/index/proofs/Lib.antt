@@ -1,0 +1,10 @@
+pub mod Lowest
+pub mod Rows
+pub mod Built
+pub mod Beside
+pub mod Fits
+pub mod Moved
+pub mod Laws
+pub mod Subscribing
+pub mod Afresh
+pub mod Exact
