@@ -230,6 +230,16 @@ dfc_answer peer_zone(const uint8_t *file, size_t file_size, uint8_t region, uint
     return answer(0, zone(&p, region == 0 ? DFC_SOURCE : DFC_TARGET, address, types));
 }
 
+/* What store_peer.c asks of a plan file: its types, and the kind of an address, 0 where nobody has it. */
+dfc_answer peer_shown(const uint8_t *file, size_t file_size, uint32_t address, uint32_t *existing, uint8_t *kind) {
+    plan p;
+    dfc_answer a = read_plan(file, file_size, &p);
+    if (a.number) return a;
+    const subscriber *s = find(&p, address);
+    *existing = p.existing, *kind = s ? s->kind : 0;
+    return a;
+}
+
 /* ---- setups */
 
 static bool is_header(const uint8_t *b, uint8_t tag, uint32_t n) { return b[0] == tag && get2(b + 1) == n; }

@@ -39,6 +39,7 @@ typedef struct {
 dfc_answer peer_check(const uint8_t *file, size_t file_size);
 dfc_answer peer_write(const uint8_t *file, size_t file_size, uint8_t *room, size_t room_size);
 dfc_answer peer_zone(const uint8_t *file, size_t file_size, uint8_t region, uint32_t address, uint8_t types[32]);
+dfc_answer peer_shown(const uint8_t *file, size_t file_size, uint32_t address, uint32_t *existing, uint8_t *kind);
 dfc_answer peer_new(const uint8_t *file, size_t file_size, uint8_t kind, uint8_t type, uint32_t address, const uint8_t *string,
                     size_t string_size, uint32_t target, uint8_t made[DFC_SETUP]);
 dfc_answer peer_continued(const uint8_t *file, size_t file_size, uint8_t kind, uint8_t type, uint32_t address, const uint8_t *received,

@@ -32,7 +32,9 @@
  *                                                         signals sent
  *   40  open: tunnel 0, a used one, or the other       41  the channel's state forbids it; or oack to closeack
  *       side's to open                                     in tunnel 0
- * 80, 81 and 82, of links, stand with their functions below.
+ * 45, 46 and 47, of the index of a plan, and 80, 81 and 82, of links, stand with their functions below.
+ * and of operational data:
+ *   70  closed to this box, or absent                 71  no room for one more data row
  * For 20 to 25 value is the place: in a plan file the first byte of the field, counted from 0, or of what follows the end field. For the others it is 0.
  * Of several refusals the plan file's comes first, then the lowest number; routing has 5 before 18, placing 5, 18, 16, 11; links have
  * 82, 80, 81; a command has 16, 10, then 17 for a count, 12, 15, 40, 41, 13, 14, and 17 for the rest.
@@ -256,6 +258,50 @@ dfc_listed dfc_index_look(const uint32_t index[DFC_INDEX_ROWS][DFC_INDEX_PLACES]
 /* The subscriber with this address is given two other sets (bit t for the type t): the file of the changed plan is written into the room, and the lists that change are changed in the index, which
  * then is the one that is built from that file. value is the file's length, which does not change. Refusals 20 to 24; 25 where the room is shorter than the file (place 0); 45, 46, 47; in that order. */
 dfc_answer dfc_index_update(const uint8_t *file, size_t file_size, dfc_index index, uint32_t address, uint32_t source, uint32_t target, uint8_t *room, size_t room_size);
+/* ---- operational data (archive libdfc_store.a) */
+
+/* Feature boxes keep data in relations of data rows: an owner, a key and a number. ('Row' is a data row in this section, not a row of call records.) The memory is
+ * the caller's, all of it numbers, and any numbers have a meaning.
+ *
+ * relations: 64 of two words, the relation r from the word 2r on
+ *    feature    the feature that it belongs to, 0 for none
+ *    customers  0: its rows belong to nobody; else: each belongs to a customer
+ *    A relation with 0 and 0 is absent.
+ * rows: 1,024 places of four words
+ *    mark       0: a free place, whatever its other words are; 1 to 64: a row of the relation mark - 1; above 64: a row that is closed to everybody
+ *    owner      the customer whose row it is, 0 for nobody
+ *    key, number
+ *    Of rows with one mark, owner and key the one at the lowest place counts; the functions here make no such doubles.
+ * features: a word for each type, the feature that the type provides, 0 for none. A type that the plan does not have provides none.
+ * owners: 256 pairs of words, an address and the customer who owns it, 0 for nobody. Of pairs with one address the first counts, so an address has at most one
+ *    owner. An address that the plan does not have, or a resource's, has none. A plan with another subscriber needs no other pairs.
+ *    Where the first pair with an address says 0, it hides the later ones. A pair outlives its subscriber: clear it when an address is given to somebody else.
+ *
+ * A box is named by its type and its address; each function works out by itself what is open to it. In the relation r,
+ *    if r belongs to a feature, the box's type has to provide it;
+ *    if its rows belong to customers, the box has the rows of the customer who owns its address, and none if nobody does; else it has the rows of owner 0.
+ * All else is 70, as is an absent row, and no answer says which of these it is. So the box names a row by relation and key, and never an owner or a place.
+ *
+ * PROVED (crates/store), for any words: stores that differ only in rows and relations that are closed to a box answer it alike, in any run of its operations, but
+ * for 71, which tells it that 1,024 places are taken; no operation changes a row that is closed to the box; what was written is read back; after a delete there is room. */
+#define DFC_FEATURES 32
+#define DFC_OWNERS 512
+#define DFC_RELATIONS 128
+#define DFC_DATA 4096
+
+/* The number of the row with this key; value: the number. Refusals 20 to 24, 70. */
+dfc_answer dfc_data_read(const uint8_t *file, size_t file_size, const uint32_t features[DFC_FEATURES], const uint32_t owners[DFC_OWNERS], uint8_t type,
+                         uint32_t address, const uint32_t relations[DFC_RELATIONS], const uint32_t rows[DFC_DATA], uint32_t relation, uint32_t key);
+
+/* The number written into that row; where there is none, the row is added at the lowest free place. value 0. A write over a row is never 71.
+ * Refusals 20 to 24, 70, 71. */
+dfc_answer dfc_data_write(const uint8_t *file, size_t file_size, const uint32_t features[DFC_FEATURES], const uint32_t owners[DFC_OWNERS], uint8_t type,
+                          uint32_t address, const uint32_t relations[DFC_RELATIONS], uint32_t rows[DFC_DATA], uint32_t relation, uint32_t key,
+                          uint32_t number);
+
+/* That row deleted: four zeros, a free place. value 0. Refusals 20 to 24, 70. */
+dfc_answer dfc_data_delete(const uint8_t *file, size_t file_size, const uint32_t features[DFC_FEATURES], const uint32_t owners[DFC_OWNERS], uint8_t type,
+                           uint32_t address, const uint32_t relations[DFC_RELATIONS], uint32_t rows[DFC_DATA], uint32_t relation, uint32_t key);
 
 #ifdef __cplusplus
 }

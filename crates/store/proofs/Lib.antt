@@ -1,0 +1,13 @@
+pub mod Words
+pub mod Effects
+pub mod Numbers
+pub mod Seen
+pub mod Isolation
+pub mod Held
+pub mod Closed
+pub mod Counts
+pub mod Request
+pub mod Others
+pub mod Rules
+pub mod Exact
+pub mod Exception
