@@ -1,6 +1,7 @@
 /* dfc.h: Plaivoreh's call-routing core for C programs.
  *
- * The archive libdfc.a (made by `rt staticlib dfc`, for x86-64 Linux) has the functions below. Each is proved to give exactly
+ * The archive libdfc.a (made by `rt staticlib dfc`, for x86-64 Linux) has the functions of plans, setups, routing and calls. Those of links, of the
+ * index of a plan and of operational data are in archives of their own, named with them below. Each function is proved to give exactly
  * the answer that documents 01 and 02 give, with the byte forms and numbers below, for any bytes and any numbers: no call crashes, hangs, allocates, keeps state between calls
  * or looks at memory that it was not lent.
  *
