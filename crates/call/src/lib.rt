@@ -1,4 +1,5 @@
 // The call by value (01 'Calls', manual 8; 02 'Ask 2', manual 9): two ends with their channels, two queues, and one step of a record for each command.
+#![tactic(auto)]
 ghost use Rattle.std.specs.Prelude.{◌≡◌, ◌+◌, ◌-◌, ◌<◌, ◌≤◌};
 ghost use Rattle.call.specs.Protocol as spec;
 ghost use Rattle.call.specs.Parts as parts;

@@ -1,4 +1,5 @@
 // What the calls' script (`call_trials`) is made of: the words of a line, what it asks with them and what came, told in them; and records by value that are lent to the operations on structs.
+#![tactic(auto)]
 pub mod asked;
 pub mod names;
 pub mod told;

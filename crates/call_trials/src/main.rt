@@ -4,6 +4,7 @@
 // `then`, or is a line of its own: `accept`, `busy`, `unobtainable`, `send SIDE SIGNAL`, `teardown SIDE`, `deliver SIDE`, `place`, `show`, `show tunnel N` (with the two channels of that tunnel): for the port, or with `record N use N` or `in row` for the row.
 // What comes: the answer, what was sent, and both states after it; or a refusal alone.
 // A row of more than four records is made for one line only, `row N .., record N .., then COMMAND`, of bytes alone: rows of so many structs, copied, would not go on the stack.
+#![tactic(auto)]
 mod records;
 
 ghost use Rattle.io.specs.Counts.{IsPrefixLen};

@@ -1,5 +1,6 @@
 // Draws a conference from a script on standard input: a line is an operation on the links of one box (manual 11.2), `hear 3.1 from 1.1`, `stop 3.1 from 1.1`, `drop 2` or `show`.
 // A termination is written port.channel. `show` tells who hears whom as a table and as a picture. Lines that begin with `-` are remarks; they and any others are only repeated.
+#![tactic(auto)]
 ghost use Rattle.std.specs.Prelude.{◌≤◌, ◌<◌};
 
 use console::Words;

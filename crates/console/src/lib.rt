@@ -2,6 +2,7 @@
 //
 // A trial program reads a table, a line a case: `title: what is asked = what is expected`. It answers in words, and `judged` holds them against the words that the line expects.
 // A word is a name of letters, a number, or one symbol of a string in quotes. Everything else between words, commas and brackets say, is for the reader. A line that begins with `-` is a remark.
+#![tactic(auto)]
 ghost use Rattle.std.specs.Prelude.{◌≡◌, ◌≤◌, true, not, length, drop, ◌==◌, slice_index};
 ghost use Rattle.typeset.specs.Sets.{every};
 ghost use Rattle.io.specs.Counts.{IsPrefixLen};

@@ -2,6 +2,7 @@
 //
 // Of the listing a line has the hops, a comma between them: the heading and the ends of lines go without saying. In what the desk reads `<13>` is the byte 13, and `<48x99>` the byte 48, 99 times.
 // `read NAME` is what the desk reads from a file of this name: there its line may end with the file, or be longer than a desk's line.
+#![tactic(auto)]
 ghost use Rattle.io.specs.Counts.{IsPrefixLen};
 
 use console::Tally;

@@ -1,4 +1,5 @@
 // The index of a plan for programs in other languages: functions on numbers, lent bytes and lent rows, over a plan file. The header is include/dfc.h.
+#![tactic(auto)]
 ghost use Rattle.std.specs.Prelude.{◌≡◌, ◌++◌, ℕ, ◌+◌, ◌≤◌, ◌<◌, ◌^◌, length, take, drop};
 ghost use Rattle.planbytes.specs.Numbers.{Below, high};
 ghost use Rattle.planbytes.specs.Format.{field, subscriber_body};

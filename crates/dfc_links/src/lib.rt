@@ -1,4 +1,5 @@
 // The archive of a box's links, as include/dfc.h declares it: who hears whom, in 64 numbers that a C program lends.
+#![tactic(auto)]
 ghost use Rattle.std.specs.Prelude.{◌≡◌};
 ghost use Rattle.links.specs.Links.{termination_number, link};
 ghost use Rattle.links.specs.Sets.{formed};

@@ -1,4 +1,5 @@
 // The ends of a call (01 'Calls', manual 8; 02 'Ask 2', manual 9): the states of an end and of its channels, the signals that it sends and takes, and what an end does with each.
+#![tactic(auto)]
 ghost use Rattle.std.specs.Prelude.{◌≡◌};
 ghost use Rattle.ends.specs.Ends as spec;
 

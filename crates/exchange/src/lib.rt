@@ -1,5 +1,6 @@
 // Ports and rows: calls where they are lent (01 'Calls'). A trunk port is one record lent by `&mut`, an exchange a row of records lent as a slice. Commands for them are in the crate `commanding`.
 // The functions that touch what is lent are thin and their proofs are walks by hand.
+#![tactic(auto)]
 ghost use Rattle.std.specs.Prelude.{◌≡◌, length, set, replicate};
 ghost use Rattle.call.specs.Protocol.{cleared};
 ghost use Rattle.call.specs.Row.{record_at, lowest_free};

@@ -1,5 +1,6 @@
 // Forwarding and screening: two feature boxes of two customers, which keep their data in one store, over the teaching plan. Each line of standard input is an operation of a box; it is printed again with its answer.
 // What is provisioned stands in data.rt: begin there to make a feature of your own. docs/DATA.md tells the example.
+#![tactic(auto)]
 mod data;
 
 use console::Words;

@@ -1,5 +1,6 @@
 // Trials of the index of a plan. The table on standard input has a line for each case and says what is expected; its head says what a line may say. After each update every place of the index and the
 // plan are compared: with what they were, and with the index that is built afresh.
+#![tactic(auto)]
 mod plans;
 
 use console::{Tally, Words};

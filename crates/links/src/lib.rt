@@ -1,4 +1,5 @@
 // The links of a box: who hears whom (manual 11.2). A set of at most 64 links in lent memory of 64 numbers: the links ascending, then 0 in every place that is left. 64 zeros are an empty set.
+#![tactic(auto)]
 ghost use Rattle.std.specs.Prelude.{◌≡◌, true, false, ◌+◌, ◌*◌, ◌-◌, ◌^◌, ◌<◌, ◌≤◌, length, drop, replicate};
 ghost use Rattle.std.proofs.lemmas.List.Edits.{sets};
 ghost use Rattle.links.specs.Links.{termination_number, link, source_of, apart, touches};

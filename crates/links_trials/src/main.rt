@@ -1,4 +1,5 @@
 // Trials of a box's links. The table on standard input has a line for each case and says what is expected; its head says what a line may say. Every place of what is lent is looked at.
+#![tactic(auto)]
 use console::{Tally, Words};
 use libc::STDIN_FILENO;
 use links::{Outcome, Summed, Termination};

@@ -1,4 +1,5 @@
 // The plan of a switchboard: which box types there are, how they are ordered, and who subscribes to what. The tests of its rules are in the crates `rules` and `soundness`.
+#![tactic(auto)]
 ghost use Rattle.std.specs.Prelude.{◌≡◌, min};
 ghost use Rattle.plan.specs.Parts.{legal, given, no_subscriber};
 ghost use Rattle.plan.specs.Find.{lookup, holder_at, seen};

@@ -1,5 +1,6 @@
 // Tries the reading, the writing and the test of plans on the cases of a table, a line a case; `stdin` is the table, and its head says how a line is written. A case that comes otherwise than its
 // line expects is printed, then how many came as expected.
+#![tactic(auto)]
 mod draft;
 mod file;
 

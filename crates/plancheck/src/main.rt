@@ -2,6 +2,7 @@
 // standard input, and then a line `== NAME` comes before each answer.
 // In the gate it checks the teaching plan's file, the empty plan's, the teaching plan's with 2 no longer before 4 in the source order (damaged), and with 7,000 bytes more, which is more than any
 // file has (long).
+#![tactic(auto)]
 mod listing;
 
 use console::say;

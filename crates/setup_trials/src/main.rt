@@ -1,5 +1,6 @@
 // Trials of zones, of the addresses that strings embed, of the three ways to make a setup, and of routing. The table on standard input has a line for each case and says what is expected; its head
 // says what a line may say. Everything that came is told in words and compared, so that nothing goes unseen: also places past a length, the count of types left, every place of what is lent.
+#![tactic(auto)]
 mod asked;
 mod names;
 mod told;

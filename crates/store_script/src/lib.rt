@@ -1,4 +1,5 @@
 // What `forwarding` and `store_trials` share: a store with what is provisioned beside it, by value, and what a box does with it under the teaching plan, to which a script may add types.
+#![tactic(auto)]
 use plan::Plan;
 use store::Answer;
 

@@ -1,5 +1,6 @@
 // Tries operational data on the steps of a script, a line a step; `stdin` is the script, and its head says how a line is written. A step that comes otherwise than its line expects is printed, then how many came as
 // expected. A refusal is told with the word `changed` where it changed a word.
+#![tactic(auto)]
 use console::{Tally, Words};
 use libc::STDIN_FILENO;
 use store::Answer;

@@ -1,5 +1,6 @@
 // subscribers PLANFILE TYPE ..: for each pair of arguments, who is touched if the type is withdrawn: the addresses that subscribe to it in each region, and how many.
 // In the gate it is asked of the teaching plan's file, of the empty plan's and of damaged ones, and with arguments that are wrong.
+#![tactic(auto)]
 use console::say;
 use index::Indexed;
 use plan::{Plan, Region, Verdict};

@@ -1,4 +1,5 @@
 // Text in lent bytes: bytes stored from a place on, and numbers as decimal digits.
+#![tactic(auto)]
 ghost use Rattle.std.specs.Prelude.{◌≡◌, ◌≤◌, ◌-◌, min, length, take};
 ghost use Rattle.std.proofs.lemmas.List.Edits.{sets};
 ghost use Rattle.text.specs.Decimal.{size, digits};

@@ -1,4 +1,6 @@
 // Sets of box types 0 to 31, as a 32-bit number: bit t for the type t.
+#![tactic(auto)]
+
 ghost use Rattle.std.specs.Prelude.{◌≡◌};
 ghost use Rattle.typeset.specs.Sets.{has, without, within, lowest, size, join, meet, minus};
 

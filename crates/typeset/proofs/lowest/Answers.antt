@@ -1,0 +1,6 @@
+-- What the check does not find by itself of `typeset::lowest`. Assumes nothing.
+use Rattle.typeset.proofs.Laws.{lowest-code}
+use Rattle.typeset.proofs.lowest.Goals as goal
+
+pub returns : goal.returns
+returns c = lowest-code c.args.set

@@ -1,0 +1,6 @@
+-- What the check does not find by itself of `typeset::minus`. Assumes nothing.
+use Rattle.typeset.proofs.Laws.{minus-code}
+use Rattle.typeset.proofs.minus.Goals as goal
+
+pub returns : goal.returns
+returns c = minus-code c.ranges.a.fits c.ranges.b.fits

@@ -1,0 +1,6 @@
+-- What the check does not find by itself of `typeset::within`. Assumes nothing.
+use Rattle.typeset.proofs.Laws.{within-code}
+use Rattle.typeset.proofs.within.Goals as goal
+
+pub returns : goal.returns
+returns c = within-code c.args.whole c.ranges.part.fits
