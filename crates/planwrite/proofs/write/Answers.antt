@@ -8,4 +8,5 @@ returns c =
     let a = c.args in
     let kept = c.sound-kept.ensures in
     let tested = c.write_tested.ensures in
-    said a.plan a.room.now (rw kept at tested.0, rw kept at tested.1)
+    let t = said a.plan a.room.now (rw kept at tested.0, rw kept at tested.1) in
+    record { value = t.0; numbered = t.1 }
