@@ -10,4 +10,7 @@ returns c =
     let a = c.args in
     let s = a.string.now in
     let exact : c.continued_tested.result ≡ continued_answer a.plan a.maker a.s a.source_arg s a.target_arg = rw c.sound-kept.ensures at c.continued_tested.ensures in
-    (exact, continued-said a.plan a.maker a.s a.source_arg s a.target_arg c.continued_tested.result exact)
+    record {
+      value = exact;
+      numbered = continued-said a.plan a.maker a.s a.source_arg s a.target_arg c.continued_tested.result exact;
+    }

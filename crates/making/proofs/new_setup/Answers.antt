@@ -10,4 +10,7 @@ returns c =
     let a = c.args in
     let s = a.string.now in
     let exact : c.new_tested.result ≡ new_answer a.plan a.maker s a.target_arg = rw c.sound-kept.ensures at c.new_tested.ensures in
-    (exact, new-said a.plan a.maker s a.target_arg c.new_tested.result exact)
+    record {
+      value = exact;
+      numbered = new-said a.plan a.maker s a.target_arg c.new_tested.result exact;
+    }

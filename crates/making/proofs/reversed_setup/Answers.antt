@@ -10,4 +10,7 @@ returns c =
     let a = c.args in
     let s = a.string.now in
     let exact : c.reversed_tested.result ≡ reversed_answer a.plan a.maker a.s a.source_arg s a.target_arg = rw c.sound-kept.ensures at c.reversed_tested.ensures in
-    (exact, reversed-said a.plan a.maker a.s a.source_arg s a.target_arg c.reversed_tested.result exact)
+    record {
+      value = exact;
+      numbered = reversed-said a.plan a.maker a.s a.source_arg s a.target_arg c.reversed_tested.result exact;
+    }

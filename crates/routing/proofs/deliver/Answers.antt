@@ -10,4 +10,7 @@ pub returns : goal.returns
 unfolding delivered answered
 returns c =
     let rest = c.args.rest.now in
-    (λ p shown. rw (c.box_chosen.ensures p shown, c.received.ensures, c.less.ensures, tail-length rest), refl)
+    record {
+      value = λ p shown. rw (c.box_chosen.ensures p shown, c.received.ensures, c.less.ensures, tail-length rest);
+      routed = refl;
+    }

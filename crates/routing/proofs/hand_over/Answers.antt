@@ -28,20 +28,20 @@ deliver-requires-else-exhausted c =
     rw (rest, length-drop _ (list_of zone)) (omega (arith, low))
 
 pub returns-then-exhausted : goal.returns-then-exhausted
-returns-then-exhausted c = (
-  λ p shown.
+returns-then-exhausted c = record {
+      value = λ p shown.
       let a = c.args in
       let zone = zone_in a.out.region a.source_zone a.target_zone in
       let rest : c.expand-rest.result.now ≡ list_of a.target_zone = rw (c.list_length-end.ensures, c.requires.1) at c.expand-rest.ensures in
       let gone : exhausted a.out.region (drop (begins a.out.route a.out.placing (list_of a.out.list) (list_of zone)) (list_of zone)) ≡ true =
       rw (c.begins-from.ensures, c.zone_in-zone.ensures) at (sym c.exhausted.ensures ∙ c.if-exhausted.true) in
-      rw (advanced-on p a.out a.target _ (list_of a.target_zone) gone, ← rest) (c.deliver.ensures.0 p shown),
-  c.deliver.ensures.1,
-)
+      rw (advanced-on p a.out a.target _ (list_of a.target_zone) gone, ← rest) (c.deliver.ensures.value p shown);
+      routed = c.deliver.ensures.routed;
+    }
 
 pub returns-else-exhausted : goal.returns-else-exhausted
-returns-else-exhausted c = (
-  λ p shown.
+returns-else-exhausted c = record {
+      value = λ p shown.
       let a = c.args in
       let zone = zone_in a.out.region a.source_zone a.target_zone in
       let whole : take (length (list_of zone)) (list_in a.out.region a.source_list.now a.target_list.now) ≡ list_of zone = list-begins a.out.region a.source_zone a.target_zone a.source_list.now a.target_list.now c.requires.0 c.requires.1 in
@@ -49,6 +49,6 @@ returns-else-exhausted c = (
       rw (c.list_length-end-else-exhausted.ensures, c.begins-from.ensures, c.zone_in-zone.ensures, whole) at c.expand-rest-else-exhausted.ensures in
       let gone : exhausted a.out.region (drop (begins a.out.route a.out.placing (list_of a.out.list) (list_of zone)) (list_of zone)) ≡ false =
       rw (c.begins-from.ensures, c.zone_in-zone.ensures) at (sym c.exhausted.ensures ∙ c.if-exhausted.false) in
-      rw (advanced-not p a.out a.target _ (list_of a.target_zone) gone, ← rest) (c.deliver-else-exhausted.ensures.0 p shown),
-  c.deliver-else-exhausted.ensures.1,
-)
+      rw (advanced-not p a.out a.target _ (list_of a.target_zone) gone, ← rest) (c.deliver-else-exhausted.ensures.value p shown);
+      routed = c.deliver-else-exhausted.ensures.routed;
+    }

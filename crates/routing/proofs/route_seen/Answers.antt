@@ -56,8 +56,8 @@ hand_over-requires c =
     )
 
 pub returns-in-Refuse : goal.returns-in-Refuse
-returns-in-Refuse c = (
-  λ p shows.
+returns-in-Refuse c = record {
+      value = λ p shows.
       let a = c.args in
       let zs = c.zone_of-source_zone.result in
       let zt = c.zone_of-target_zone.result in
@@ -70,13 +70,13 @@ returns-in-Refuse c = (
         c.refused.ensures ∙ sym (answer-refused a.kept p a.out a.later n m _ refuse),
         sym (source-refused a.kept p a.out a.later n m _ a.source_list.now refuse),
         sym (target-refused a.kept p a.out a.later n m _ a.target_list.now refuse),
-      ),
-  (λ refused. refl, λ refused. refl),
-)
+      );
+      unchanged = (λ refused. refl, λ refused. refl);
+    }
 
 pub returns-in-Nothing : goal.returns-in-Nothing
-returns-in-Nothing c = (
-  λ p shows.
+returns-in-Nothing c = record {
+      value = λ p shows.
       let a = c.args in
       let zs = c.zone_of-source_zone.result in
       let zt = c.zone_of-target_zone.result in
@@ -93,10 +93,10 @@ returns-in-Nothing c = (
       let nothing : settled_by a.kept p a.out a.later n m ≡ Nothing = sym same ∙ sym c.settled.ensures ∙ c.in-Nothing.is in
       let extracted = c.extracted-target.ensures in
       let holder = ap (holder_at p) extracted ∙ seen-second p a.out.source (target1 a.out) shows in
-      let over = rw extracted at (c.hand_over.ensures.0 p holder) in (
+      let over = rw extracted at (c.hand_over.ensures.value p holder) in (
         over ∙ handed-over a.kept p a.out a.later n m zs zt source target nothing,
         c.put.ensures ∙ source-routed a.kept p a.out a.later n m zs a.source_list.now nothing source source_fits,
         c.put-in-Nothing.ensures ∙ target-routed a.kept p a.out a.later n m zt a.target_list.now nothing target target_fits,
-      ),
-  (λ refused. absurd (clash c.hand_over.ensures.1 refused), λ refused. absurd (clash c.hand_over.ensures.1 refused)),
-)
+      );
+      unchanged = (λ refused. absurd (clash c.hand_over.ensures.routed refused), λ refused. absurd (clash c.hand_over.ensures.routed refused));
+    }

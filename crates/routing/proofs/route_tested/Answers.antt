@@ -6,4 +6,4 @@ use Rattle.routing.proofs.route_tested.Goals as goal
 pub returns : goal.returns
 returns c =
     let shown = rw c.extracted.ensures at c.look-v.ensures in
-    c.route_seen.ensures.0 c.args.plan (sym shown)
+    c.route_seen.ensures.value c.args.plan (sym shown)
