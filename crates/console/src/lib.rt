@@ -4,13 +4,15 @@
 // A word is a name of letters, a number, or one symbol of a string in quotes. Everything else between words, commas and brackets say, is for the reader. A line that begins with `-` is a remark.
 #![tactic(auto)]
 
-ghost use Rattle.std.specs.Prelude.{◌≡◌, ◌≤◌, ℕ, true, not, length, drop, ◌==◌, slice_index, IfOk, OnErr};
+ghost use Rattle.std.specs.Prelude.{◌≡◌, ◌≤◌, ℕ, true, not, length, drop, ◌==◌, slice_index, IfOk, OnErr, IfSome};
 ghost use Rattle.std.specs.Counts.{IsPrefixLen};
 ghost use Rattle.typeset.specs.Sets.{every};
 
 use refusal::{Place, Refusal};
+use std::env::FillError;
 use std::io;
 use std::io::Read;
+use std::rt::Env;
 
 // ---- printing
 
@@ -76,6 +78,47 @@ pub fn read_line<R: Read>(input: &mut R, line: &mut [u8]) -> io::Result<Line>
         ended: false,
     })
 }
+
+// Reads until the room is full or the input ends, and answers how many bytes it put at the start of the room.
+pub fn read_full<R: Read>(input: &mut R, room: &mut [u8]) -> io::Result<usize>
+    ensures { IfOk result (λ n. IsPrefixLen n room.new) }
+{
+    let mut done: usize = 0;
+    for _ in 0usize..room.len() {
+        let n = input.read(&mut room[done..])?;
+        if n == 0 {
+            break;
+        }
+        done += n;
+    }
+    Ok(within(done, room))
+}
+
+// ---- arguments
+
+// Puts the argument at a place at the start of the room and answers its length, 0 where the room is too short; nothing past the last argument. The first one is the program's own name.
+pub fn argument(rt: &impl Env, i: usize, room: &mut [u8]) -> Option<usize>
+    ensures { IfSome result (λ n. IsPrefixLen n room.new) }
+{
+    match rt.arg(i, room) {
+        Ok(n) => Some(n),
+        Err(FillError::TooLong) => Some(within(0, room)),
+        Err(FillError::NotPresent) => None,
+    }
+}
+
+// How many arguments there are, the program's own name among them.
+pub fn argument_count(rt: &impl Env) -> usize {
+    let mut nothing = [0u8; 0];
+    for i in 0usize..usize::MAX {
+        if argument(rt, i, &mut nothing).is_none() {
+            return i;
+        }
+    }
+    usize::MAX
+}
+
+// ---- lengths
 
 // As many of the bytes as there are, so that `&bytes[..n]` can be had.
 pub fn within(n: usize, bytes: &[u8]) -> usize
