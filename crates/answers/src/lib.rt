@@ -7,7 +7,7 @@ use refusal::{Place, Refusal};
 
 // Number 0 and the operation's value; or the number of a refusal and its place, 0 where it has none.
 #[repr(C)]
-#[derive(Drop)]
+#[derive(Clone, Copy)]
 pub struct Answer {
     pub number: u64,
     pub value: u64,

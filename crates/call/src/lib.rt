@@ -9,19 +9,19 @@ pub use ends::{End, Side, Signal, State, Status};
 use refusal::Refusal;
 
 // A place of a queue. It is a struct, since a field that is an array of enums has no proof from the borrow checker.
-#[derive(Drop)]
+#[derive(Clone, Copy)]
 pub struct Slot {
     pub signal: Signal,
 }
 
 // The signals that wait for an end: the first `count` slots, the oldest at slot 0. In a call that was placed the slots past them are blank.
-#[derive(Drop)]
+#[derive(Clone, Copy)]
 pub struct Queue {
     pub slots: [Slot; 16],
     pub count: u8,
 }
 
-#[derive(Drop)]
+#[derive(Clone, Copy)]
 pub struct Call {
     pub caller: End,
     pub callee: End,
@@ -31,7 +31,7 @@ pub struct Call {
 }
 
 // The callee's three answers; an ordinary signal from a side, by tunnel and status; teardown from a side; delivery to a side.
-#[derive(Drop)]
+#[derive(Clone, Copy)]
 pub enum Command {
     Accept,
     Busy,
@@ -42,14 +42,14 @@ pub enum Command {
 }
 
 // A delivery answers with the signal handed over.
-#[derive(Drop)]
+#[derive(Clone, Copy)]
 pub enum Answer {
     Accepted,
     Delivered(Signal),
     Refused(Refusal),
 }
 
-#[derive(Drop)]
+#[derive(Clone, Copy)]
 pub struct Step {
     pub answer: Answer,
     pub call: Call,

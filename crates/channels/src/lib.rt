@@ -1,5 +1,6 @@
 // The channel protocol (02 'Ask 2', manual 9.4): one table for both roles, what is sent and what is taken.
 #![tactic(auto)]
+
 ghost use Rattle.std.specs.Prelude.{◌≡◌, ◌≤◌, ◌<◌};
 ghost use Rattle.channels.specs.Channels as spec;
 ghost use Rattle.channels.specs.Layout as layout;

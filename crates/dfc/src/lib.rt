@@ -226,7 +226,7 @@ pub extern "C" fn dfc_reversed(
 
 // Number 0, how many types are left, and the callee box; or the refusal's number and place, and zeros.
 #[repr(C)]
-#[derive(Drop)]
+#[derive(Clone, Copy)]
 pub struct Routed {
     pub number: u64,
     pub value: u64,
@@ -369,7 +369,7 @@ use recordbytes::Commanded;
 
 // What routing says, and where the call was placed; beside a refusal zeros.
 #[repr(C)]
-#[derive(Drop)]
+#[derive(Clone, Copy)]
 pub struct Placed {
     pub number: u64,
     pub value: u64,

@@ -15,7 +15,7 @@ use refusal::Refusal;
 
 // Where the subscribers of a type in a region stand in the index: the first `count` places of row `row`.
 #[repr(C)]
-#[derive(Drop)]
+#[derive(Clone, Copy)]
 pub struct Listed {
     pub row: u64,
     pub count: u64,

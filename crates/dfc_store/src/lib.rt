@@ -9,7 +9,7 @@ use plan::Verdict;
 use store::Who;
 
 // Whether some bytes are a plan file, and who a box is to the store by its plan.
-#[derive(Drop)]
+#[derive(Clone, Copy)]
 struct Known {
     answer: Verdict,
     who: Who,

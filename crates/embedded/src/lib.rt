@@ -4,7 +4,7 @@ ghost use Rattle.std.specs.Prelude.{◌≡◌, true, ◌≤◌, ◌<◌, length,
 ghost use Rattle.embedded.specs.Embedded.{digit, all_digits, number_from, skipped, writes_address, dialled, embedded};
 
 // Whom a string dials.
-#[derive(Drop)]
+#[derive(Clone, Copy)]
 pub enum Dials {
     Nobody,
     Address(u32),

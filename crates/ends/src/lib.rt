@@ -1,17 +1,18 @@
 // The ends of a call (01 'Calls', manual 8; 02 'Ask 2', manual 9): the states of an end and of its channels, the signals that it sends and takes, and what an end does with each.
 #![tactic(auto)]
+
 ghost use Rattle.std.specs.Prelude.{◌≡◌};
 ghost use Rattle.ends.specs.Ends as spec;
 
 use refusal::Refusal;
 
-#[derive(Drop)]
+#[derive(Clone, Copy)]
 pub enum Side {
     Caller,
     Callee,
 }
 
-#[derive(Drop)]
+#[derive(Clone, Copy)]
 pub enum State {
     Idle,
     Requesting,
@@ -21,14 +22,14 @@ pub enum State {
 }
 
 // An end of a call, the caller's or the callee's. Its channels go by tunnel: 0 unused, 1 opening (the opener's) or opened, 2 oacked or oacking, 3 readying or readied, 4 closing, 5 closing2, 6 closing3, 7 closed, 8 end_chan; another number is no state. Tunnel 0 has a place, and no channel.
-#[derive(Drop)]
+#[derive(Clone, Copy)]
 pub struct End {
     pub state: State,
     pub channels: [u8; 256],
 }
 
 // What an ordinary signal says. A dtmf has one of twelve symbols: 0 to 9, 10 for * and 11 for #.
-#[derive(Drop)]
+#[derive(Clone, Copy)]
 pub enum Status {
     Unknown,
     Avail,
@@ -45,7 +46,7 @@ pub enum Status {
 }
 
 // An ordinary signal has its tunnel and its status.
-#[derive(Drop)]
+#[derive(Clone, Copy)]
 pub enum Signal {
     Upack,
     Ordinary(u8, Status),
@@ -54,7 +55,7 @@ pub enum Signal {
 }
 
 // What comes of a command for the end that acts: a refusal, or its next state. (Not the end: an enum that holds an array has no proof from the borrow checker.)
-#[derive(Drop)]
+#[derive(Clone, Copy)]
 pub enum Verdict {
     Refuse(Refusal),
     Become(State),

@@ -9,7 +9,7 @@ ghost use Rattle.exchange.specs.Lent as spec;
 use call::Call;
 
 // A record copied out of a row, and whether the row has it; the cleared record beside false.
-#[derive(Drop)]
+#[derive(Clone, Copy)]
 pub struct Taken {
     pub inside: bool,
     pub call: Call,

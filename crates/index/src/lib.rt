@@ -12,14 +12,14 @@ use plan::{Found, Plan, Region, Subscriber, Types};
 use refusal::Refusal;
 
 // What building and updating answer.
-#[derive(Drop)]
+#[derive(Clone, Copy)]
 pub enum Indexed {
     Done,
     Refused(Refusal),
 }
 
 // What a change of a subscriber's sets answers, with the plan afterwards: the changed one, or on a refusal the one that was given.
-#[derive(Drop)]
+#[derive(Clone, Copy)]
 pub struct Updated {
     pub said: Indexed,
     pub plan: Plan,

@@ -153,7 +153,7 @@ fn sent_on(plan: Plan, callee: Callee, received: Setup) -> Setup
 }
 
 // A journey on its way: the setup that is routed next, where the next line begins, and whether there is one.
-#[derive(Drop)]
+#[derive(Clone, Copy)]
 struct Trip {
     setup: Setup,
     at: usize,

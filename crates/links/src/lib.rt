@@ -1,5 +1,6 @@
 // The links of a box: who hears whom (manual 11.2). A set of at most 64 links in lent memory of 64 numbers: the links ascending, then 0 in every place that is left. 64 zeros are an empty set.
 #![tactic(auto)]
+
 ghost use Rattle.std.specs.Prelude.{◌≡◌, true, false, ◌+◌, ◌*◌, ◌-◌, ◌^◌, ◌<◌, ◌≤◌, length, drop, replicate};
 ghost use Rattle.std.proofs.lemmas.List.Edits.{sets};
 ghost use Rattle.links.specs.Links.{termination_number, link, source_of, apart, touches};
@@ -10,20 +11,20 @@ ghost use Rattle.links.specs.Steps.{place_of, pushed, pulled, stays, remaining, 
 use refusal::Refusal;
 
 // A channel termination of a box: one of its ports, and a channel there.
-#[derive(Drop)]
+#[derive(Clone, Copy)]
 pub struct Termination {
     pub port: u16,
     pub channel: u16,
 }
 
-#[derive(Drop)]
+#[derive(Clone, Copy)]
 pub enum Outcome {
     Done,
     Refused(Refusal),
 }
 
 // How many sources are summed into a termination.
-#[derive(Drop)]
+#[derive(Clone, Copy)]
 pub enum Summed {
     Count(usize),
     Refused(Refusal),
@@ -80,7 +81,7 @@ fn blank_from(set: &[u64; 64], from: usize) -> bool
 }
 
 // Whether the memory holds a set of links, and how many they are, if it does.
-#[derive(Drop)]
+#[derive(Clone, Copy)]
 struct Looked {
     formed: bool,
     count: usize,

@@ -22,7 +22,7 @@ use zone::Zone;
 const IN_MEMORY: usize = 0;
 
 // The box that makes a setup: a feature box with its type and address, a line or trunk box with the source it names, a resource box, the error box.
-#[derive(Drop)]
+#[derive(Clone, Copy)]
 pub enum Maker {
     Feature(u8, u32),
     Line(u32),
@@ -31,14 +31,14 @@ pub enum Maker {
     Error,
 }
 
-#[derive(Drop)]
+#[derive(Clone, Copy)]
 pub enum Outcome {
     Made,
     Refused(Refusal),
 }
 
 // A setup that was made; or a refusal, and a blank setup beside it.
-#[derive(Drop)]
+#[derive(Clone, Copy)]
 pub struct Answer {
     pub outcome: Outcome,
     pub setup: Setup,

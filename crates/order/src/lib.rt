@@ -1,5 +1,6 @@
 // Orders of the 32 box types, as 32 rows of 32 bits: row a holds the types that a comes before.
 #![tactic(auto)]
+
 ghost use Rattle.std.specs.Prelude.{◌≡◌, ◌<◌};
 ghost use Rattle.typeset.specs.Sets.{same};
 ghost use Rattle.order.specs.Rules.{two_of, reversible_ordered, reversible_opposed, order_sound};

@@ -14,7 +14,7 @@ use routing::{Later, Outcome};
 use setup::Setup;
 
 // Where a call was placed, and what routing gave. Beside a refusal, which is in what routing gave, the two numbers are 0.
-#[derive(Drop)]
+#[derive(Clone, Copy)]
 pub struct Placed {
     pub record_number: usize,
     pub use_number: u16,

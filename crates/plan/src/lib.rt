@@ -1,5 +1,6 @@
 // The plan of a switchboard: which box types there are, how they are ordered, and who subscribes to what. The tests of its rules are in the crates `rules` and `soundness`.
 #![tactic(auto)]
+
 ghost use Rattle.std.specs.Prelude.{◌≡◌, min};
 ghost use Rattle.plan.specs.Parts.{legal, given, no_subscriber};
 ghost use Rattle.plan.specs.Find.{lookup, holder_at, seen};
@@ -7,14 +8,14 @@ ghost use Rattle.plan.specs.Find.{lookup, holder_at, seen};
 use refusal::Refusal;
 
 // A region of a usage: the boxes of the caller's address, and those of the callee's.
-#[derive(Drop)]
+#[derive(Clone, Copy)]
 pub enum Region {
     Source,
     Target,
 }
 
 // The five sets of types, in the order of the plan file: bit t for the type t.
-#[derive(Drop)]
+#[derive(Clone, Copy)]
 pub struct Types {
     pub existing: u32,
     pub bound: u32,
@@ -25,7 +26,7 @@ pub struct Types {
 
 // An address of the plan: its kind (1 line, 2 trunk, 3 resource, 4 mobile), what it subscribes to in each region, and its box numbers,
 // of which the first count places are in use.
-#[derive(Drop)]
+#[derive(Clone, Copy)]
 pub struct Subscriber {
     pub address: u32,
     pub source: u32,
@@ -36,7 +37,7 @@ pub struct Subscriber {
 }
 
 // Row t of an order holds the types that t comes before. The first count places of subscribers are in use.
-#[derive(Drop)]
+#[derive(Clone, Copy)]
 pub struct Plan {
     pub types: Types,
     pub source_order: [u32; 32],
@@ -47,7 +48,7 @@ pub struct Plan {
 
 // What a plan shows to an operation on one setup, which asks for two addresses: the types, the two orders, and the subscribers of the two addresses, all zero where nobody has one. It is a
 // twentieth of the plan, so that who has it need not hand a plan on.
-#[derive(Drop)]
+#[derive(Clone, Copy)]
 pub struct Seen {
     pub types: Types,
     pub source_order: [u32; 32],
@@ -57,14 +58,14 @@ pub struct Seen {
 }
 
 // What the test of a plan answers.
-#[derive(Drop)]
+#[derive(Clone, Copy)]
 pub enum Verdict {
     Sound,
     Refused(Refusal),
 }
 
 // What the look-up of an address answers: the place of its subscriber, or nothing.
-#[derive(Drop)]
+#[derive(Clone, Copy)]
 pub enum Found {
     At(usize),
     Nothing,

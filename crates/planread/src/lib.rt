@@ -16,21 +16,21 @@ use plan::{Plan, Seen, Subscriber, Types, Verdict};
 use refusal::Refusal;
 
 // What reading answers: sound, with the plan, or a refusal, with a blank one beside it.
-#[derive(Drop)]
+#[derive(Clone, Copy)]
 pub struct Reading {
     pub answer: Verdict,
     pub plan: Plan,
 }
 
 // What looking through a file answers: what the plan shows of two addresses; or a refusal, with what a blank plan shows beside it.
-#[derive(Drop)]
+#[derive(Clone, Copy)]
 pub struct Sight {
     pub answer: Verdict,
     pub seen: Seen,
 }
 
 // What looking through the fields after the fixed ones answers: sound, with the subscribers of two addresses; or the refusal of one of them.
-#[derive(Drop)]
+#[derive(Clone, Copy)]
 struct Pass {
     answer: Verdict,
     one: Subscriber,
@@ -38,7 +38,7 @@ struct Pass {
 }
 
 // The four fixed fields: sound, with what they say, or the refusal of one of them.
-#[derive(Drop)]
+#[derive(Clone, Copy)]
 struct Head {
     answer: Verdict,
     types: Types,

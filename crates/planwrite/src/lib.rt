@@ -12,7 +12,7 @@ use plan::{Plan, Subscriber, Types};
 use refusal::Refusal;
 
 // What writing answers: how many bytes the file has, or a refusal.
-#[derive(Drop)]
+#[derive(Clone, Copy)]
 pub enum Written {
     Bytes(usize),
     Refused(Refusal),

@@ -16,7 +16,7 @@ ghost use Rattle.recordbytes.specs.Parts.{handed_over, put_at, acted_at, three_s
 
 // An answer: number 0, and 1 and the signal where one was handed over; or the refusal's number, and zeros.
 #[repr(C)]
-#[derive(Drop)]
+#[derive(Clone, Copy)]
 pub struct Commanded {
     pub number: u64,
     pub delivered: u64,

@@ -20,7 +20,7 @@ use setup::{Dialled, Outer, Placing, Route, Setup};
 use zone::Zone;
 
 // The box that a call is routed to: a feature box with its type and address; a line, trunk or resource box with its number and address; the error box with the address that leads to it.
-#[derive(Drop)]
+#[derive(Clone, Copy)]
 pub enum Callee {
     Feature(u8, u32),
     Line(u16, u32),
@@ -30,27 +30,27 @@ pub enum Callee {
 }
 
 // The first box that a subscriber lists, by kind and number, or nothing.
-#[derive(Drop)]
+#[derive(Clone, Copy)]
 enum First {
     Box(u8, u16),
     Nothing,
 }
 
 // A refusal of the caller's own that comes after routing's: nothing, or the refusal.
-#[derive(Drop)]
+#[derive(Clone, Copy)]
 pub enum Later {
     Nothing,
     Refuse(Refusal),
 }
 
-#[derive(Drop)]
+#[derive(Clone, Copy)]
 pub enum Outcome {
     Routed(Callee),
     Refused(Refusal),
 }
 
 // The callee box, the setup that it receives and how many types are left in it; or a refusal, and a blank setup and 0 beside it.
-#[derive(Drop)]
+#[derive(Clone, Copy)]
 pub struct Answer {
     pub outcome: Outcome,
     pub setup: Setup,

@@ -88,7 +88,7 @@ pub fn clear(row: &mut [u8])
 // ---- commands
 
 // Where the record of a command stands, or why there is none.
-#[derive(Drop)]
+#[derive(Clone, Copy)]
 enum Found {
     Refuse(Refusal),
     At(usize),

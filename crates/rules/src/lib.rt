@@ -1,5 +1,6 @@
 // The tests of a plan's rules one by one: of the five sets, of the two orders, and of a subscriber by itself. What each says is in the crate `plan`.
 #![tactic(auto)]
+
 ghost use Rattle.std.specs.Prelude.{◌≡◌, ◌&&◌, ◌<◌};
 ghost use Rattle.plan.specs.Parts.{box_number};
 ghost use Rattle.plan.specs.Rules.{types_exist, reversible_in_both, bound_in_both, kind_known, address_given, count_fits, numbers_given, sets_in_choices, reversible_twice, numbers_differ};

@@ -9,14 +9,14 @@ use plan::Region;
 use zone::Zone;
 
 // A dialled string: the first len places, as ASCII codes. The places past len are 0 in whatever is made here.
-#[derive(Drop)]
+#[derive(Clone, Copy)]
 pub struct Dialled {
     pub symbols: [u8; 32],
     pub len: u8,
 }
 
 // Which part of the routing address's zone is to be visited. A list stands beside it, in the setup.
-#[derive(Drop)]
+#[derive(Clone, Copy)]
 pub enum Route {
     Whole,
     Suffix,
@@ -24,20 +24,20 @@ pub enum Route {
 }
 
 // The type of the box that placed the call, where it is needed.
-#[derive(Drop)]
+#[derive(Clone, Copy)]
 pub enum Placing {
     NoPlacing,
     PlacedBy(u8),
 }
 
 // The address of the box that placed the call, where it is needed.
-#[derive(Drop)]
+#[derive(Clone, Copy)]
 pub enum Outer {
     NoOuter,
     OuterAt(u32),
 }
 
-#[derive(Drop)]
+#[derive(Clone, Copy)]
 pub struct Setup {
     pub region: Region,
     pub source: u32,
@@ -50,7 +50,7 @@ pub struct Setup {
 }
 
 // Which fault a setup has, the first in this order.
-#[derive(Drop)]
+#[derive(Clone, Copy)]
 pub enum Fault {
     WellFormed,
     BadAddressOrString,

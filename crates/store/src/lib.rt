@@ -11,20 +11,20 @@ use refusal::Refusal;
 
 // A box as the store knows it: the feature that its type provides, and the customer who owns its address; 0 for none.
 // For the crate `owners`, which makes it of a plan: any two numbers are taken as the box's.
-#[derive(Drop)]
+#[derive(Clone, Copy)]
 pub struct Who {
     pub feature: u32,
     pub owner: u32,
 }
 
 // What a box may use of a relation: no rows, or those of one owner; 0 is the owner of rows that belong to nobody.
-#[derive(Drop)]
+#[derive(Clone, Copy)]
 pub enum Access {
     NoRows,
     RowsOf(u32),
 }
 
-#[derive(Drop)]
+#[derive(Clone, Copy)]
 pub enum Answer {
     Number(u32),
     Done,

@@ -4,7 +4,7 @@ use mathlib.Core.Path.{◌≡◌, sym, ◌∙◌}
 use mathlib.Core.List.{List}
 use Prim.Native.Nat.{ℕ}
 use contract.Lifetimes.{Lfts}
-use denote.Ref.{Bor}
+use denote.Ref.{Bor, MutBor}
 use denote.Triple.Clauses.{AtExit}
 use borrow.Fn.Kinds.{ended_of}
 use Rattle.text.specs.declared.Digits.{Digits}
@@ -15,6 +15,6 @@ use Rattle.text.proofs.put.Kinds as put-kinds
 pub decimal-exact : (n : ℕ) (r s : Digits) → decimal.Post tt (n, tt) r (n, tt) → decimal.Post tt (n, tt) s (n, tt) → r ≡ s
 decimal-exact n r s p q = p ∙ sym q
 
-pub put-exact : (κs : Lfts 2) (bytes : Bor (List ℕ)) (at : ℕ) (room : Bor (List ℕ)) (end end' : AtExit (ended_of 2 put-kinds.ps put-kinds.r) κs)
+pub put-exact : (κs : Lfts 2) (bytes : Bor (List ℕ)) (at : ℕ) (room : MutBor (List ℕ)) (end end' : AtExit (ended_of 2 put-kinds.ps put-kinds.r) κs)
     → put.Post κs (bytes, (at, (room, tt))) tt end → put.Post κs (bytes, (at, (room, tt))) tt end' → end.1.1.0.now ≡ end'.1.1.0.now
 put-exact κs bytes at room end end' p q = p ∙ sym q

@@ -1,11 +1,12 @@
 // Text in lent bytes: bytes stored from a place on, and numbers as decimal digits.
 #![tactic(auto)]
+
 ghost use Rattle.std.specs.Prelude.{◌≡◌, ◌≤◌, ◌-◌, min, length, take};
 ghost use Rattle.std.proofs.lemmas.List.Edits.{sets};
 ghost use Rattle.text.specs.Decimal.{size, digits};
 
 // The decimal digits of a number: the first len places.
-#[derive(Drop)]
+#[derive(Clone, Copy)]
 pub struct Digits {
     pub bytes: [u8; 10],
     pub len: u8,

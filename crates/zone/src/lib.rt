@@ -8,14 +8,14 @@ use plan::{Found, Plan, Region, Verdict};
 use refusal::Refusal;
 
 // The types in order, each once, and how many there are. The places past len are 0.
-#[derive(Drop)]
+#[derive(Clone, Copy)]
 pub struct Zone {
     pub types: [u8; 32],
     pub len: u8,
 }
 
 // A zone, or the refusal of the plan and an empty zone beside it.
-#[derive(Drop)]
+#[derive(Clone, Copy)]
 pub struct Answer {
     pub verdict: Verdict,
     pub zone: Zone,

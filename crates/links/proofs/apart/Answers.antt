@@ -1,0 +1,8 @@
+-- What the check does not find by itself of `links::apart`. Assumes nothing.
+use Rattle.links.specs.Links.{apart}
+use borrow.Author.Rules.{rules}
+use Rattle.links.proofs.apart.Goals as goal
+
+pub returns : goal.returns
+unfolding apart
+returns c = search rules

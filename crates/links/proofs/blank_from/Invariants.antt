@@ -1,0 +1,17 @@
+-- What the check does not find by itself of `links::blank_from`. Assumes nothing.
+use mathlib.Core.Path.{◌≡◌, refl, sym, ◌∙◌}
+use mathlib.Core.Bool.{◌&&◌}
+use Prim.Native.Nat.{◌-◌, ◌≤◌, ◌<◌}
+use native.Mathlib.Omega.{arith}
+use lib.Dec.{eqb}
+use lib.ListN.{length, drop}
+use borrow.Author.Rules.{rules}
+use Rattle.links.specs.Sets.{blank}
+use Rattle.links.proofs.Loops.{blank-on, blank-end}
+use Rattle.links.proofs.blank_from.Given as goal
+
+abbrev pub invariant-loop-i : goal.invariant-loop-i
+invariant-loop-i l = (eqb l.rest 0 && blank (drop l.i l.set)) ≡ blank (drop l.from l.set)
+
+abbrev pub decreases-loop-i : goal.decreases-loop-i
+decreases-loop-i l = 64 - l.i

@@ -1,0 +1,16 @@
+-- What the check does not find by itself of `links::close_up`. Assumes nothing.
+use mathlib.Core.Path.{◌≡◌, refl}
+use Prim.Native.Nat.{◌+◌, ◌-◌, ◌≤◌, ◌<◌}
+use native.Mathlib.Omega.{arith}
+use lib.ListN.{length, drop}
+use lib.Seq.{sets}
+use borrow.Author.Rules.{rules}
+use Rattle.links.specs.Steps.{pulled}
+use Rattle.links.proofs.Loops.{pull-on, pull-last, pull-end}
+use Rattle.links.proofs.close_up.Given as goal
+
+abbrev pub invariant-loop-i : goal.invariant-loop-i
+invariant-loop-i l = (l.i ≤ 63) × (sets l.set l.i (pulled (drop (l.i + 1) l.initial.set)) ≡ sets l.initial.set l.from (pulled (drop (l.from + 1) l.initial.set))) × (drop (l.i + 1) l.set ≡ drop (l.i + 1) l.initial.set)
+
+abbrev pub decreases-loop-i : goal.decreases-loop-i
+decreases-loop-i l = 63 - l.i

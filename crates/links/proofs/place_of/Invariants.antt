@@ -1,0 +1,12 @@
+-- What the check does not find by itself of `links::place_of`. Assumes nothing.
+use mathlib.Core.Path.{◌≡◌}
+use Prim.Native.Nat.{◌+◌, ◌-◌, ◌≤◌, ◌<◌}
+use native.Mathlib.Omega.{arith}
+use lib.ListN.{length, drop}
+use borrow.Author.Rules.{rules}
+use Rattle.links.specs.Steps.{place_of}
+use Rattle.links.proofs.Loops.{place-free, place_here, place-on, place_end}
+use Rattle.links.proofs.place_of.Given as goal
+
+abbrev pub invariant-loop-i : goal.invariant-loop-i
+invariant-loop-i l = (l.i ≤ 64) × (l.i + place_of l.x (drop l.i l.set) ≡ place_of l.x l.set)

@@ -1,0 +1,16 @@
+-- What the check does not find by itself of `links::put_in`. Assumes nothing.
+use mathlib.Core.Path.{◌≡◌, refl}
+use Prim.Native.Nat.{◌-◌, ◌≤◌, ◌<◌}
+use native.Mathlib.Omega.{arith}
+use lib.ListN.{length, drop}
+use lib.Seq.{sets}
+use borrow.Author.Rules.{rules}
+use Rattle.links.specs.Steps.{pushed}
+use Rattle.links.proofs.Loops.{push-on, push-last, push-end}
+use Rattle.links.proofs.put_in.Given as goal
+
+abbrev pub invariant-loop-i : goal.invariant-loop-i
+invariant-loop-i l = (sets l.set l.i (pushed l.carried (drop l.i l.initial.set)) ≡ sets l.initial.set l.from (pushed l.x (drop l.from l.initial.set))) × (drop l.i l.set ≡ drop l.i l.initial.set)
+
+abbrev pub decreases-loop-i : goal.decreases-loop-i
+decreases-loop-i l = 64 - l.i

@@ -1,0 +1,78 @@
+-- What the check does not find by itself of `links::to_front`. Assumes nothing.
+use mathlib.Core.Path.{◌≡◌, refl, sym, ap, ◌∙◌}
+use mathlib.Core.Logic.{⊎_elim}
+use mathlib.Core.Bool.{true, false}
+use mathlib.Core.List.{List}
+use Prim.Native.Nat.{ℕ, ◌+◌, ◌-◌, ◌≤◌, ◌<◌}
+use native.Mathlib.Omega.{arith}
+use lib.ListN.{length, get_or, drop}
+use lib.Seq.{sets}
+use borrow.Author.Rules.{rules}
+use Rattle.lists.specs.Lists.{keep}
+use Rattle.lists.proofs.Places.{keep-no, count-more}
+use Rattle.links.specs.Sets.{links}
+use Rattle.links.specs.Steps.{stays, remaining}
+use Rattle.links.proofs.Loops.{same_read, blank-keeps, front-on, front-skip}
+use Rattle.links.proofs.Memory.{positive, links-few, link_at, blank-after}
+use Rattle.links.proofs.to_front.Goals as goal
+
+pub loop-i-init : goal.loop-i-init
+loop-i-init c = (search rules, search rules, refl, omega arith, refl, omega (arith, c.requires.2, links-few c.args.set.now c.requires.0))
+
+pub offset_bounds-set-i : goal.offset_bounds-set-i
+offset_bounds-set-i c = omega arith
+
+pub bounds-set-i : goal.bounds-set-i
+bounds-set-i c = omega (arith, c.loop-i.invariant.5)
+
+pub stays-requires : goal.stays-requires
+stays-requires c =
+    let i = c.loop-i.i in
+    let low : i < length (links c.args.set.now) = omega (arith, c.requires.2) in
+    positive (λ z. link_at c.args.set.now c.requires.0 c.requires.1 i low (sym (same_read c.loop-i.set c.args.set.now i c.loop-i.invariant.4) ∙ z))
+
+pub offset_bounds-set-n : goal.offset_bounds-set-n
+offset_bounds-set-n c = omega arith
+
+pub bounds-set-n : goal.bounds-set-n
+bounds-set-n c = omega (arith, c.loop-i.invariant.1, c.loop-i.invariant.5)
+
+pub overflow_add-n : goal.overflow_add-n
+overflow_add-n c = omega (arith, c.loop-i.invariant.1, c.loop-i.invariant.5)
+
+pub overflow_step-i : goal.overflow_step-i
+overflow_step-i c = omega (arith, c.loop-i.invariant.5)
+
+pub loop-i-smaller : goal.loop-i-smaller
+loop-i-smaller c = search rules
+
+pub loop-i-preserved : goal.loop-i-preserved
+loop-i-preserved c =
+    let m = c.args.set.now in
+    let s = c.loop-i.set in
+    let i = c.loop-i.i in
+    let n = c.loop-i.n in
+    let v = c.loop-i.invariant in
+    let below : i < length m = omega (arith, c.requires.0, v.5) in
+    let test = stays c.args.port in
+    let read : test (get_or m i 0) ≡ test (get_or s i 0) = ap test (sym (same_read s m i v.4)) in
+    ⊎_elim
+    (λ w.
+    let yes : test (get_or s i 0) ≡ true = sym c.stays.ensures ∙ w.0.taken in
+    let on = front-on test s m n i _ v.4 v.2 below v.1 yes in
+    rw (w.1, w.2) (search rules, omega (arith, v.1), on.0, count-more test m i 0 n _ below (read ∙ yes) v.3, on.1, v.5))
+    (λ w.
+    let no : test (get_or s i 0) ≡ false = sym c.stays.ensures ∙ w.0.left in
+    let skip = front-skip test s m n i _ v.4 v.2 below no in
+    rw (w.1, w.2) (search rules, omega (arith, v.1), skip.0, ap (λ (l : List ℕ). n + length l) (sym (keep-no test m i 0 below (read ∙ no))) ∙ v.3, skip.1, v.5))
+    c.if-stays.branch
+
+pub returns : goal.returns
+unfolding remaining stays
+returns c =
+    let m = c.args.set.now in
+    let i = c.loop-i.i in
+    let v = c.loop-i.invariant in
+    let past : length (links m) ≤ i = omega (arith, c.requires.2) in
+    let none = blank-keeps (stays c.args.port) refl (drop i m) (blank-after m c.requires.0 c.requires.1 i past) in
+    (omega (arith, v.3, ap length none), omega (arith, v.0, v.1, v.5), rw none at v.2)

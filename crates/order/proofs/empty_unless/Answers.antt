@@ -1,0 +1,13 @@
+-- What the check does not find by itself of `order::empty_unless`. Assumes nothing.
+use mathlib.Core.Path.{sym, ◌∙◌}
+use Rattle.order.specs.Steps.{empty_unless}
+use borrow.Author.Rules.{rules}
+use Rattle.order.proofs.empty_unless.Goals as goal
+
+pub returns-then-has : goal.returns-then-has
+unfolding empty_unless
+returns-then-has c = rw (sym c.has.ensures ∙ c.if-has.true)
+
+pub returns-else-has : goal.returns-else-has
+unfolding empty_unless
+returns-else-has c = rw (sym c.has.ensures ∙ c.if-has.false)

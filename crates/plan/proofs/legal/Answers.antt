@@ -1,0 +1,8 @@
+-- What the check does not find by itself of `plan::legal`. Assumes nothing.
+use Rattle.plan.specs.Parts.{legal}
+use mathlib.Core.Path.{refl}
+use Rattle.plan.proofs.legal.Goals as goal
+
+pub returns : goal.returns
+unfolding legal
+returns c = refl

@@ -1,0 +1,9 @@
+-- What the check does not find by itself of `plan::look`. Assumes nothing.
+use mathlib.Core.Path.{refl}
+use borrow.Author.Rules.{rules}
+use Rattle.plan.specs.Find.{seen}
+use Rattle.plan.proofs.look.Goals as goal
+
+pub returns : goal.returns
+unfolding seen
+returns c = rw (c.holder-one.ensures, c.holder-other.ensures) refl

@@ -1,0 +1,8 @@
+-- What the check does not find by itself of `rules::bound_in_both`. Assumes nothing.
+use Rattle.plan.specs.Rules.{bound_in_both}
+use borrow.Author.Rules.{rules}
+use Rattle.rules.proofs.bound_in_both.Goals as goal
+
+pub returns : goal.returns
+unfolding bound_in_both
+returns c = rw (← c.meet-both.ensures, ← c.meet-bound.ensures) c.within.ensures

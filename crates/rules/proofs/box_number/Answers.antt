@@ -1,0 +1,6 @@
+-- What the check does not find by itself of `rules::box_number`. Assumes nothing.
+use Rattle.plan.proofs.Boxes.{number-code}
+use Rattle.rules.proofs.box_number.Goals as goal
+
+pub returns : goal.returns
+returns c = number-code _ c.ranges.n.fits

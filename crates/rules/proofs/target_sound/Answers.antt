@@ -1,0 +1,13 @@
+-- What the check does not find by itself of `rules::target_sound`. Assumes nothing.
+use Rattle.typeset.proofs.Bools.{passed, failed}
+use Rattle.plan.specs.Sound.{target_sound}
+use borrow.Author.Rules.{rules}
+use Rattle.rules.proofs.target_sound.Goals as goal
+
+pub returns-then-not-order_sound : goal.returns-then-not-order_sound
+unfolding target_sound
+returns-then-not-order_sound c = rw (failed c.order_sound.ensures c.if-not-order_sound.true-raw)
+
+pub returns : goal.returns
+unfolding target_sound
+returns c = rw (passed c.order_sound.ensures c.if-not-order_sound.false-raw) c.reversible_opposed.ensures

@@ -1,0 +1,18 @@
+-- What the check does not find by itself of `text::decimal`. Assumes nothing.
+use borrow.Author.Rules.{rules}
+use mathlib.Core.Path.{◌≡◌, refl, sym, ap, ◌∙◌}
+use Prim.Native.Nat.{ℕ, ◌+◌, ◌-◌, ◌≤◌, ◌<◌}
+use native.Mathlib.Omega.{arith}
+use mathlib.Core.List.{List}
+use lib.ListN.{length, replicate}
+use lib.Seq.{sets}
+use Rattle.text.specs.Decimal.{tens, size, last_digits, decimal, digits}
+use Rattle.text.proofs.Tens.{size_low, tens-some, digits_long, digit-next}
+use Rattle.text.proofs.decimal.Given as goal
+
+abbrev pub invariant-loop-i : goal.invariant-loop-i
+invariant-loop-i l =
+    (l.i ≤ l.len) × (sets l.bytes l.i (last_digits (l.len - l.i) l.n) ≡ sets (replicate 10 0) 0 (last_digits l.len l.n))
+
+abbrev pub decreases-loop-i : goal.decreases-loop-i
+decreases-loop-i l = l.len - l.i
