@@ -1,5 +1,6 @@
 // The address that a dialled string embeds.
 #![tactic(auto)]
+
 ghost use Rattle.std.specs.Prelude.{◌≡◌, true, ◌≤◌, ◌<◌, length, get_or, [], ◌∷◌};
 ghost use Rattle.embedded.specs.Embedded.{digit, all_digits, number_from, skipped, writes_address, dialled, embedded};
 

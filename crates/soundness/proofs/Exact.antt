@@ -15,7 +15,7 @@ use Rattle.soundness.proofs.fits.Kinds as fits-kinds
 use Rattle.soundness.proofs.claim.Reads as claim
 use Rattle.soundness.proofs.claim.Kinds as claim-kinds
 use contract.Lifetimes.{Lfts}
-use denote.Ref.{Bor}
+use denote.Ref.{Bor, MutBor}
 use denote.Triple.Clauses.{AtExit}
 use borrow.Fn.Kinds.{ended_of}
 
@@ -36,6 +36,6 @@ pub fits-exact : (κs : Lfts 1) (taken : Bor (List ℕ)) (subscriber : Subscribe
     → fits.Post κs (taken, (subscriber, tt)) r end → fits.Post κs (taken, (subscriber, tt)) s end → r ≡ s
 fits-exact κs taken subscriber end r s p q = p ∙ sym q
 
-pub claim-exact : (κs : Lfts 1) (taken : Bor (List ℕ)) (subscriber : Subscriber) (end end' : AtExit (ended_of 1 claim-kinds.ps claim-kinds.r) κs)
+pub claim-exact : (κs : Lfts 1) (taken : MutBor (List ℕ)) (subscriber : Subscriber) (end end' : AtExit (ended_of 1 claim-kinds.ps claim-kinds.r) κs)
     → claim.Post κs (taken, (subscriber, tt)) tt end → claim.Post κs (taken, (subscriber, tt)) tt end' → end.0.now ≡ end'.0.now
 claim-exact κs taken subscriber end end' p q = p ∙ sym q

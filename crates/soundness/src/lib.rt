@@ -1,5 +1,6 @@
 // The test of a whole plan: every subscriber beside those before it, with a table of the box numbers that are taken, and the places that are not in use. What each function says is in the crate `plan`.
 #![tactic(auto)]
+
 ghost use Rattle.std.specs.Prelude.{◌≡◌, ◌||◌, cond, ◌-◌, ◌*◌, ◌%◌, ◌<◌, ◌≤◌, eqb, length, get_or, replicate};
 ghost use Rattle.refusal.specs.declared.Place.TheVariants.{Nowhere, At};
 ghost use Rattle.typeset.specs.Sets.{every};

@@ -1,5 +1,6 @@
 // The zone of an address in a region: the types that it subscribes to there, each once, in an order that the precedence allows.
 #![tactic(auto)]
+
 ghost use Rattle.std.specs.Prelude.{◌≡◌, []};
 ghost use Rattle.zone.specs.Order.{preceded, unpreceded, next, zone_list, held};
 ghost use Rattle.zone.specs.Answer.{zone_at, answer};

@@ -1,0 +1,18 @@
+-- What the check does not find by itself of `embedded::all_digits`. Assumes nothing.
+use mathlib.Core.Path.{◌≡◌, sym}
+use mathlib.Core.Bool.{true}
+use Rattle.typeset.proofs.Bools.{passed, failed}
+use Rattle.typeset.specs.Sets.{every}
+use Rattle.typeset.proofs.Below.{every-none, every_more, every-no}
+use lib.ListN.{length, get_or}
+use Rattle.embedded.specs.Embedded.{digit, all_digits}
+use Prim.Native.Nat.{◌≤◌, ◌<◌, ◌-◌}
+use native.Mathlib.Omega.{arith}
+use borrow.Author.Rules.{rules}
+use Rattle.embedded.proofs.all_digits.Given as goal
+
+abbrev pub invariant-loop-i : goal.invariant-loop-i
+invariant-loop-i l = (l.i ≤ length l.s) × (every l.i (λ k. digit (get_or l.s k 0)) ≡ true)
+
+abbrev pub decreases-loop-i : goal.decreases-loop-i
+decreases-loop-i l = length l.s - l.i

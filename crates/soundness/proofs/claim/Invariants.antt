@@ -1,0 +1,16 @@
+-- What the check does not find by itself of `soundness::claim`. Assumes nothing.
+use mathlib.Core.Path.{◌≡◌, sym, ◌∙◌}
+use mathlib.Core.Logic.{⊎_elim}
+use Prim.Native.Nat.{◌≤◌, ◌-◌}
+use native.Mathlib.Omega.{arith}
+use borrow.Author.Rules.{rules}
+use lib.ListN.{length}
+use Rattle.plan.proofs.Numbers.{rest, rest_all, rest-next, rest-skip, rest-done, claimed-none, claimed-one}
+use Rattle.plan.specs.Table.{claimed}
+use Rattle.soundness.proofs.claim.Given as goal
+
+abbrev pub invariant-loop-x : goal.invariant-loop-x
+invariant-loop-x l = (l.x ≤ 4) × (rest l.taken l.s l.x ≡ claimed l.initial.taken l.s)
+
+abbrev pub decreases-loop-x : goal.decreases-loop-x
+decreases-loop-x l = 4 - l.x

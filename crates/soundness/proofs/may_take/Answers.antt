@@ -1,0 +1,11 @@
+-- What the check does not find by itself of `soundness::may_take`. Assumes nothing.
+use mathlib.Core.Path.{◌∙◌, ap}
+use mathlib.Core.Bool.{Bool, ◌||◌}
+use lib.Dec.{eqb}
+use Rattle.plan.specs.Table.{may_take}
+use borrow.Author.Rules.{rules}
+use Rattle.soundness.proofs.may_take.Goals as goal
+
+pub returns : goal.returns
+unfolding may_take
+returns c = rw (← c.holder-holder.ensures) (c.either.ensures ∙ ap (λ (b : Bool). eqb c.holder-holder.result 0 || b) c.both.ensures)

@@ -1,0 +1,8 @@
+-- What the check does not find by itself of `soundness::take_number`. Assumes nothing.
+use Rattle.plan.specs.Table.{entered}
+use borrow.Author.Rules.{rules}
+use Rattle.soundness.proofs.take_number.Goals as goal
+
+pub returns : goal.returns
+unfolding entered
+returns c = rw (← c.bits_of.ensures.0, ← c.join.ensures)

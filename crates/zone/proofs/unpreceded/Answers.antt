@@ -1,0 +1,10 @@
+-- What the check does not find by itself of `zone::unpreceded`. Assumes nothing.
+use mathlib.Core.Path.{◌∙◌, ap}
+use borrow.Author.Rules.{rules}
+use Rattle.typeset.specs.Sets.{minus}
+use Rattle.zone.specs.Order.{unpreceded}
+use Rattle.zone.proofs.unpreceded.Goals as goal
+
+pub returns : goal.returns
+unfolding unpreceded
+returns c = c.minus.ensures ∙ ap (minus _) c.preceded.ensures

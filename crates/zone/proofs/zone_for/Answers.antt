@@ -1,0 +1,14 @@
+-- What the check does not find by itself of `zone::zone_for`. Assumes nothing.
+use mathlib.Core.Path.{sym, ◌∙◌}
+use Rattle.plan.specs.Sound.{verdict}
+use Rattle.zone.specs.Answer.{answer}
+use borrow.Author.Rules.{rules}
+use Rattle.zone.proofs.zone_for.Goals as goal
+
+pub returns-then-sound : goal.returns-then-sound
+unfolding answer verdict
+returns-then-sound c = rw (sym c.sound.ensures ∙ c.if-sound.true, c.zone_at.ensures)
+
+pub returns-else-sound : goal.returns-else-sound
+unfolding answer verdict
+returns-else-sound c = rw (sym c.sound.ensures ∙ c.if-sound.false, c.empty_zone.ensures)
