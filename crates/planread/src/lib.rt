@@ -1,5 +1,6 @@
 // Any bytes read as a plan file: the plan, or the refusal of the first field at which they stop being one.
 #![tactic(auto)]
+
 ghost use Rattle.std.specs.Prelude.{◌≡◌, true, ◌&&◌, cond, List, ◌++◌, ℕ, ◌+◌, ◌*◌, ◌-◌, ◌%◌, ◌≤◌, ◌<◌, leb, ltb, eqb, length, take, drop, replicate};
 ghost use Rattle.plan.specs.Rules.{boxes_blank};
 ghost use Rattle.plan.specs.Sound.{own_sound, number_said, place_said};

@@ -1,5 +1,6 @@
 // Setups: what a box sends to place a call. Which fault one has is tested in `faults`.
 #![tactic(auto)]
+
 ghost use Rattle.std.specs.Prelude.{◌≡◌, min, [], length, take};
 ghost use Rattle.zone.specs.Order.{held};
 ghost use Rattle.setup.specs.Dialling.{symbol, legal_string, padded, dialled, string_of, legal_dialled};

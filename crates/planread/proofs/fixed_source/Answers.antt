@@ -1,0 +1,27 @@
+-- What the check does not find by itself of `planread::fixed_source`. Assumes nothing.
+use mathlib.Core.Path.{sym, ◌∙◌}
+use native.Mathlib.Omega.{arith}
+use Rattle.typeset.proofs.Bools.{passed, failed}
+use Rattle.planread.specs.Reading.{plan_of}
+use Rattle.plan.specs.Parts.{no_subscriber}
+use lib.ListN.{drop, replicate}
+use Rattle.planread.proofs.Turns.{source-room, source-broken, source-on}
+use Rattle.planread.proofs.Steps.{read-refused}
+use Rattle.planread.proofs.Onward.{not_on}
+use borrow.Author.Rules.{rules}
+use Rattle.planread.proofs.fixed_source.Goals as goal
+
+pub order_at-source-requires : goal.order_at-source-requires
+order_at-source-requires c = omega (arith, source-room c.args.bytes.now (sym c.header-verdict.ensures ∙ c.in-Sound.is))
+
+pub returns-then-not-source_sound : goal.returns-then-not-source_sound
+returns-then-not-source_sound c = not_on _ _ _ _ c.not_fixed-then-not-source_sound.ensures (source-broken c.args.bytes.now (sym c.header-verdict.ensures ∙ c.in-Sound.is) c.args.types (replicate 32 0) (replicate 256 no_subscriber) c.order_at-source.ensures _ (failed c.source_sound.ensures c.if-not-source_sound.true-raw))
+
+pub fixed_target-requires : goal.fixed_target-requires
+fixed_target-requires c = source-room c.args.bytes.now (sym c.header-verdict.ensures ∙ c.in-Sound.is)
+
+pub returns-in-Refused : goal.returns-in-Refused
+returns-in-Refused c = not_on _ _ _ _ c.not_fixed.ensures (read-refused 258 2 (plan_of c.args.types (replicate 32 0) (replicate 32 0) (replicate 256 no_subscriber) 0) 27 (drop 27 c.args.bytes.now) (sym c.header-verdict.ensures ∙ c.in-Refused.is))
+
+pub returns-else-not-source_sound : goal.returns-else-not-source_sound
+returns-else-not-source_sound c = (c.fixed_target.ensures.0 ∙ sym (source-on c.args.bytes.now (sym c.header-verdict.ensures ∙ c.in-Sound.is) c.args.types (replicate 32 0) (replicate 256 no_subscriber) c.order_at-source.ensures _ (passed c.source_sound.ensures c.if-not-source_sound.false-raw)), c.fixed_target.ensures.1)

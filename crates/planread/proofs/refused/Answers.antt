@@ -1,0 +1,6 @@
+-- What the check does not find by itself of `planread::refused`. Assumes nothing.
+use borrow.Author.Rules.{rules}
+use Rattle.planread.proofs.refused.Goals as goal
+
+pub returns : goal.returns
+returns c = rw c.blank_plan-plan.ensures

@@ -1,0 +1,7 @@
+-- What the check does not find by itself of `planread::types_at`. Assumes nothing.
+use Rattle.planread.proofs.Fields.{types-at}
+use borrow.Author.Rules.{rules}
+use Rattle.planread.proofs.types_at.Goals as goal
+
+pub returns : goal.returns
+returns c = types-at c.args.bytes.now c.args.at c.four.ensures c.four-2.ensures c.four-3.ensures c.four-4.ensures c.four-5.ensures

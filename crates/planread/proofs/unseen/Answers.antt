@@ -1,0 +1,9 @@
+-- What the check does not find by itself of `planread::unseen`. Assumes nothing.
+use mathlib.Core.Path.{refl}
+use borrow.Author.Rules.{rules}
+use Rattle.planread.specs.Scanning.{unseen}
+use Rattle.planread.proofs.unseen.Goals as goal
+
+pub returns : goal.returns
+unfolding unseen
+returns c = rw (c.no_types-types.ensures, c.no_subscriber-nobody.ensures) refl

@@ -1,0 +1,8 @@
+-- What the check does not find by itself of `setup::blank_setup`. Assumes nothing.
+use Rattle.setup.specs.Setups.{blank}
+use borrow.Author.Rules.{rules}
+use Rattle.setup.proofs.blank_setup.Goals as goal
+
+pub returns : goal.returns
+unfolding blank
+returns c = rw (c.empty_string.ensures, c.empty_list.ensures)

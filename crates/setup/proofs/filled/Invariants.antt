@@ -1,0 +1,12 @@
+-- What the check does not find by itself of `setup::filled`. Assumes nothing.
+use mathlib.Core.Path.{◌≡◌, refl, sym, ap, ◌∙◌}
+use lib.ListN.{length, take, replicate}
+use Rattle.setup.specs.Dialling.{padded}
+use Rattle.setup.proofs.Stored.{onward, onward-next, onward-done, onward-padded}
+use Prim.Native.Nat.{◌≤◌, ◌-◌, min}
+use native.Mathlib.Omega.{arith}
+use borrow.Author.Rules.{rules}
+use Rattle.setup.proofs.filled.Given as goal
+
+abbrev pub invariant-loop-i : goal.invariant-loop-i
+invariant-loop-i l = (l.i ≤ l.end) × (onward l.places l.s l.i ≡ padded (take 32 l.s))

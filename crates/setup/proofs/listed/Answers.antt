@@ -1,0 +1,11 @@
+-- What the check does not find by itself of `setup::listed`. Assumes nothing.
+use mathlib.Core.Path.{sym, ◌∙◌}
+use Rattle.zone.specs.Order.{held}
+use Rattle.setup.specs.Dialling.{padded}
+use Rattle.setup.proofs.Stored.{first-32}
+use borrow.Author.Rules.{rules}
+use Rattle.setup.proofs.listed.Goals as goal
+
+pub returns : goal.returns
+unfolding held padded
+returns c = λ i. record { types = c.filled.ensures i; len = (c.at_most_32.ensures ∙ sym (first-32 c.args.s.now)) i }

@@ -1,0 +1,8 @@
+-- What the check does not find by itself of `teaching::subscriber`. Assumes nothing.
+use mathlib.Core.Path.{refl}
+use Rattle.teaching.specs.Teaching.{subscriber}
+use Rattle.teaching.proofs.subscriber.Goals as goal
+
+pub returns : goal.returns
+unfolding subscriber
+returns c = refl

@@ -1,0 +1,18 @@
+-- What the check does not find by itself of `teaching::subscribers`. Assumes nothing.
+use mathlib.Core.List.{◌∷◌}
+use lib.ListN.{replicate}
+use Rattle.teaching.specs.Teaching.{subscriber, unused, subscribers}
+use borrow.Author.Rules.{rules}
+use Rattle.teaching.proofs.subscribers.Goals as goal
+
+pub returns : goal.returns
+unfolding subscribers unused
+returns c =
+    λ i.
+    (c.subscriber.ensures i)
+    ∷ (c.subscriber-2.ensures i)
+    ∷ (c.subscriber-3.ensures i)
+    ∷ (c.subscriber-4.ensures i)
+    ∷ (c.subscriber-5.ensures i)
+    ∷ (c.subscriber-6.ensures i)
+    ∷ replicate 250 (c.subscriber-nobody.ensures i)

@@ -1,0 +1,8 @@
+-- What the check does not find by itself of `teaching::types`. Assumes nothing.
+use mathlib.Core.Path.{refl}
+use Rattle.teaching.specs.Teaching.{types}
+use Rattle.teaching.proofs.types.Goals as goal
+
+pub returns : goal.returns
+unfolding types
+returns c = refl
