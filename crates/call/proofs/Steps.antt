@@ -112,3 +112,6 @@ few c Callee g h = h
 
 pub pos : {n : ℕ} → (n ≡ 0 → ⊥) → 0 < n
 pos h = omega arith
+
+-- what a step's goals cite
+pub ruleset step_cases = (few, step-over-caller, step-over-callee, step-acted)

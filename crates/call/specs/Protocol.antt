@@ -6,8 +6,7 @@ use Rattle.refusal.specs.Numbers.{number_of}
 use Rattle.ends.specs.declared.State.{State}
 use Rattle.ends.specs.declared.State.TheVariants.{Idle, Requesting, Waiting, Linked, Unlinking}
 use Rattle.ends.specs.declared.End.{End}
-use Rattle.ends.specs.declared.Status.{Status}
-use Rattle.ends.specs.declared.Status.TheVariants.{Unknown, Avail, Unavail, None, Dtmf, Special}
+use Rattle.ends.specs.declared.Status.TheVariants.{Unknown, Unavail}
 use Rattle.ends.specs.declared.Signal.{Signal}
 use Rattle.ends.specs.declared.Signal.TheVariants.{Upack, Ordinary, Teardown, Downack}
 use Rattle.call.specs.declared.Slot.{Slot}

@@ -1,5 +1,6 @@
 // The call by value (01 'Calls', manual 8; 02 'Ask 2', manual 9): two ends with their channels, two queues, and one step of a record for each command.
 #![tactic(auto)]
+
 ghost use Rattle.std.specs.Prelude.{◌≡◌, ◌+◌, ◌-◌, ◌<◌, ◌≤◌};
 ghost use Rattle.call.specs.Protocol as spec;
 ghost use Rattle.call.specs.Parts as parts;
@@ -374,6 +375,7 @@ impl Call {
     }
 
     // A step of the record.
+    #[tactic(auto, using(crate::proofs::Steps::step_cases))]
     pub fn step(self, k: Command) -> Step
         ensures { result ≡ spec.step self k }
     {

@@ -1,6 +1,7 @@
 // Commands for calls in ports and rows, where they are lent (01 'Calls'): what the crate `exchange` takes from a row is stepped, and stored back through it.
-// The functions that touch what is lent are thin and their proofs are walks by hand; every decision is made by a function of values.
+// The functions that touch what is lent are thin; every decision is made by a function of values.
 #![tactic(auto)]
+
 ghost use Rattle.std.specs.Prelude.{◌≡◌};
 ghost use Rattle.call.specs.Protocol.{step};
 ghost use Rattle.call.specs.Row.{command as by-command, turn};

@@ -1,3 +1,3 @@
-pub mod Plain
+pub mod Rows
 pub mod Numbered
 pub mod Exact

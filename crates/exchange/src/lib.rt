@@ -1,6 +1,7 @@
 // Ports and rows: calls where they are lent (01 'Calls'). A trunk port is one record lent by `&mut`, an exchange a row of records lent as a slice. Commands for them are in the crate `commanding`.
-// The functions that touch what is lent are thin and their proofs are walks by hand.
+// The functions that touch what is lent are thin.
 #![tactic(auto)]
+
 ghost use Rattle.std.specs.Prelude.{◌≡◌, length, set, replicate};
 ghost use Rattle.call.specs.Protocol.{cleared};
 ghost use Rattle.call.specs.Row.{record_at, lowest_free};
@@ -62,6 +63,7 @@ pub fn clear_port(port: &mut Call)
     *port = Call::cleared();
 }
 
+#[tactic(auto, using(crate::proofs::Rows::from_start, crate::proofs::Rows::from_end))]
 pub fn clear(row: &mut [Call])
     ensures { row.new ≡ replicate (length row.old) cleared }
 {

@@ -1,5 +1,6 @@
 // Which fault a setup has (01 'Setups', refusal 5): the tests of a well-formed setup. What each says is in the crate `setup`.
 #![tactic(auto)]
+
 ghost use Rattle.std.specs.Prelude.{◌≡◌, min, []};
 ghost use Rattle.zone.specs.Order.{held};
 ghost use Rattle.zone.specs.Answer.{zone_at};

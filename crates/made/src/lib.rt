@@ -1,5 +1,6 @@
 // The setups that boxes make: new, continued, reversed (manual 5.4 to 5.6). Who may make one is tested in `making`.
 #![tactic(auto)]
+
 ghost use Rattle.std.specs.Prelude.{◌≡◌, [], take};
 ghost use Rattle.zone.specs.Order.{held};
 ghost use Rattle.setup.specs.Dialling.{dialled, string_of};

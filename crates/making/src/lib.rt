@@ -1,5 +1,6 @@
 // The three ways to make a setup: new, continued and reversed.
 #![tactic(auto)]
+
 ghost use Rattle.std.specs.Prelude.{◌≡◌, ◌&&◌, cond, ℕ};
 ghost use Rattle.typeset.specs.Sets.{has};
 ghost use Rattle.refusal.specs.declared.Place.TheVariants.{Nowhere, At};

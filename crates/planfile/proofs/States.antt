@@ -131,7 +131,7 @@ module _ (p : Plan) (𝓣 : Typed p) (𝓢 : sound p ≡ true) where
       ∙ blank-empty (at p.subscribers (p.count + i))
       (imp-at (leb p.count (p.count + i)) (blank (at p.subscribers (p.count + i)))
       (every-at 256 (λ i. implies (leb p.count i) (blank (at p.subscribers i))) (rest-kept p 𝓢) (p.count + i) here) (le-leb p.count (p.count + i) (omega arith)))
-      (typed_at p.subscribers 𝓣.each-Fits (p.count + i) inside))
+      (typed_at p.subscribers 𝓣.each_fits (p.count + i) inside))
       ∙ ap (λ (n : ℕ). replicate n no_subscriber) long
 
   pub filled-used : filled (take p.count p.subscribers) ≡ p.subscribers

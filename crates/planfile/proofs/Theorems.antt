@@ -81,7 +81,7 @@ fields-short (s ∷ xs) p =
 
 pub longest : (p : Plan) → Typed p → sound p ≡ true → length (bytes_of p) ≤ 6436
 longest p 𝓣 𝓢 =
-    let short = fields-short (take p.count p.subscribers) (typed-take p.count p.subscribers 𝓣.each-Fits) in
+    let short = fields-short (take p.count p.subscribers) (typed-take p.count p.subscribers 𝓣.each_fits) in
     omega (arith, file-length p 𝓣.source_rows 𝓣.target_rows, used-length p 𝓣 𝓢, few p 𝓢)
 
 pub too_long : (bs : List ℕ) → Below 256 bs → 6436 < length bs → (p : Plan) → read_of bs ≡ accepted p → ⊥

@@ -161,7 +161,7 @@ module _ (p : Plan) (𝓣 : Typed p) (𝓢 : sound p ≡ true) where
       read_head (subscriber_fields (take k p.subscribers) ++ rest)
       ∙ ap (λ (n : ℕ). read_from n 4 (state p.types p.source_order p.target_order []) 289 (subscriber_fields (take k p.subscribers) ++ rest)) fuel
       ∙ read_some p.types p.source_order p.target_order [] (take k p.subscribers) (take k p.subscribers) rest (257 - k) 289 refl
-      (rw long (omega (arith, few p 𝓢))) (typed-take k p.subscribers 𝓣.each-Fits) ok
+      (rw long (omega (arith, few p 𝓢))) (typed-take k p.subscribers 𝓣.each_fits) ok
 
   pub read-file : (rest : List ℕ) → read_of (bytes_of p ++ rest) ≡ ended p (length (bytes_of p)) rest
   unfolding bytes_of

@@ -155,9 +155,9 @@ suffix-begins (PlacedBy t) zone = refl
 
 pub begins-expanded : (r : Route) (placing : Placing) (l : Zone) (zone : List ℕ) → route_fits r (list_fits zone l) ≡ true
     → drop (begins r placing (list_of l) zone) zone ≡ expanded r placing (list_of l) zone
-begins-expanded Whole placing l zone fits = refl
+begins-expanded Whole _ l zone fits = refl
 begins-expanded Suffix placing l zone fits = suffix-begins placing zone
-begins-expanded Listed placing l zone fits = end-part-is (list_of l) zone (fits-end-part zone l fits)
+begins-expanded Listed _ l zone fits = end-part-is (list_of l) zone (fits-end-part zone l fits)
 
 -- the route of a well-formed setup after step 2 is an end part of the zone
 pub route-begins : (p : Plan) (out : Setup) → well_formed p out ≡ true → drop (begins out.route out.placing (list_of out.list) (zone2 p out)) (zone2 p out) ≡ route2 p out

@@ -39,9 +39,9 @@ suffix_begins NoPlacing zone = 0
 suffix_begins (PlacedBy t) zone = before t zone
 
 abbrev pub begins : Route → Placing → List ℕ → List ℕ → ℕ
-begins Whole placing l zone = 0
+begins Whole _ l zone = 0
 begins Suffix placing l zone = suffix_begins placing zone
-begins Listed placing l zone = length zone - length l
+begins Listed _ l zone = length zone - length l
 
 -- step 4, for what steps 1 to 3 gave
 unfoldable pub delivered : Plan → Setup → ℕ → Region → Outer → List ℕ → Answer

@@ -53,9 +53,9 @@ suffix NoPlacing zone = zone
 suffix (PlacedBy t) zone = suffix_after t zone
 
 abbrev pub expanded : Route → Placing → List ℕ → List ℕ → List ℕ
-expanded Whole placing l zone = zone
+expanded Whole _ l zone = zone
 expanded Suffix placing l zone = suffix placing zone
-expanded Listed placing l zone = l
+expanded Listed _ l zone = l
 
 -- the zone in which a setup is expanded: that of its routing address, after step 1
 unfoldable pub zone2 : Plan → Setup → List ℕ

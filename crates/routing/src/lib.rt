@@ -1,5 +1,6 @@
 // Routing: the four steps from a setup sent to the callee box and the setup it receives (manual section 6).
 #![tactic(auto)]
+
 ghost use Rattle.std.specs.Prelude.{◌≡◌, true, ◌-◌, ◌≤◌, min, length, take, drop};
 ghost use Rattle.std.proofs.lemmas.List.Edits.{sets};
 ghost use Rattle.plan.specs.declared.Plan.{Plan};

@@ -1,5 +1,6 @@
 // The numbers of an end's states and of the signals, for programs in other languages: those of a record's bytes, of commands and of logs. Any number is read back.
 #![tactic(auto)]
+
 ghost use Rattle.std.specs.Prelude.{◌≡◌};
 ghost use Rattle.signalbytes.specs.Numbers.{state_number, status_number, status_code, signal_number, signal_tunnel, signal_code, state_said, status_said, signal_said};
 

@@ -1,5 +1,5 @@
 -- The third demand and manual 8.7: proofs of the statements of specs/Teardown.antt. Assumes nothing.
-use Prim.Native.Nat.{ℕ, zero, suc, ◌+◌, ◌-◌, ◌≤◌}
+use Prim.Native.Nat.{ℕ, zero, suc, ◌+◌, ◌≤◌}
 use mathlib.Core.Path.{◌≡◌, refl, sym, ap, ◌∙◌}
 use mathlib.Core.Bool.{Bool, true, false, cond, not, ◌&&◌, ◌||◌}
 use mathlib.Core.List.{List, [], ◌∷◌, ◌++◌, append-nil, append_assoc}
@@ -29,7 +29,7 @@ use Rattle.teardown.specs.Teardown.{Closes, Demand3, OfFour, accepting, tearing,
 use Rattle.ends.specs.declared.Status.{Status}
 use Rattle.ends.specs.Ends.{fits}
 use Rattle.tunnels.proofs.Wires.{Wires, wires-unused}
-use Rattle.teardown.proofs.Fate.{SoundSignal, head-sound, passes}
+use Rattle.teardown.proofs.Fate.{head-sound, passes}
 use Rattle.teardown.proofs.Slots.{Holds, holding, holds-none}
 use Rattle.teardown.proofs.Phase.{open-end, by-t, by-d, by-td, Shape, shut, rest, up, tears-in, downs-in, cap, none', Flow, shut', rest', flow-counts, Phase, Stage, deliver-at}
 use Rattle.teardown.proofs.Phase.{asking, asked, upack-to-me, upack-to-them, early-to-me, early-to-them, linked, i-tear, they-tear, crossed, they-done, i_done}

@@ -1,17 +1,14 @@
 -- Computed from the definitions: the channels of a call (02 'Ask 2'): a channel's life, two races of the closing states, the refusals 12, 15, 40, 41, 13, 14 alone and beside later ones. (The other races, and 16, 10 and 17 beside these, are lines of the script of `call_trials`.) Assumes nothing.
-use Rattle.std.specs.Prelude.{ℕ, ◌≡◌, refl, Bool, true, false, ◌&&◌, List, [], ◌∷◌, ◌++◌, map, replicate}
+use Rattle.std.specs.Prelude.{ℕ, ◌≡◌, refl, true, ◌&&◌, List, [], ◌∷◌, ◌++◌, map, replicate}
 use Rattle.ends.specs.declared.State.TheVariants.{Linked, Unlinking}
-use Rattle.ends.specs.declared.Status.{Status}
-use Rattle.ends.specs.declared.Status.TheVariants.{Avail, Dtmf, Special, Open, Oack, Onack, Ready, Close, Closeack}
-use Rattle.ends.specs.declared.Signal.{Signal}
+use Rattle.ends.specs.declared.Status.TheVariants.{Avail, Dtmf, Special, Open, Oack, Ready, Close, Closeack}
 use Rattle.ends.specs.declared.Signal.TheVariants.{Upack, Ordinary}
 use Rattle.ends.specs.Ends.{channel_at}
 use Rattle.channels.specs.Channels.{unused, oacked, oacking, readying, readied, closing, closing3, closed, end_chan, follows}
 use Rattle.call.specs.declared.Call.{Call}
-use Rattle.ends.specs.declared.Side.{Side}
 use Rattle.ends.specs.declared.Side.TheVariants.{Caller, Callee}
 use Rattle.call.specs.declared.Command.{Command}
-use Rattle.call.specs.declared.Command.TheVariants.{Accept, Send, Teardown as Hang-up, Deliver}
+use Rattle.call.specs.declared.Command.TheVariants.{Send, Teardown as Hang-up, Deliver}
 use Rattle.call.specs.Protocol.{end_of, is_free, step, number_in, placed, cleared}
 use Rattle.call.specs.History.{after}
 use Rattle.teardown.specs.Plays.{all_allowed, to_linked, made, asks}

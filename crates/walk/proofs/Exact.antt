@@ -1,6 +1,6 @@
--- Of a function that is walked by hand: what two things that its contract allows have in common. Assumes nothing.
+-- What two things that a contract allows have in common. Assumes nothing.
 use seplogic.Ra.Ura.{Ura}
-use base.Logic.{SProp, ent, id⊢, via}
+use base.Logic.{ent, id⊢, via}
 use contract.Monad.{conj, fact, fact_mono}
 use denote.Laws.{both_say}
 use types.Logic.{Logic}

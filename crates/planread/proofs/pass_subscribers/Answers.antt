@@ -16,6 +16,7 @@ use Rattle.planread.specs.Scanning.{scanned}
 use mathlib.Core.Logic.{⊎_elim}
 use Rattle.planread.proofs.Turns.{turn-refused, turn_inside, turn_end, turn-count, turn_low, turn-high, turn-room, turn-blank, turn-broken, turn_on}
 use Rattle.planread.proofs.pass_subscribers.Goals as goal
+use Rattle.planread.proofs.pass_subscribers.Goals.{else-s-first, else-s-second, then-s-first, then-s-second}
 
 pub loop-r-init : goal.loop-r-init
 loop-r-init c = λ source target. passing-none c.args.bytes.now c.args.types source target c.args.first c.args.second c.requires.0 c.requires.1 c.no_subscriber-one.ensures c.no_subscriber-other.ensures
@@ -65,27 +66,26 @@ returns-then-not-keeps c = λ source target. sighted-refused _ _ _ _ _ c.stopped
 pub overflow_add-count : goal.overflow_add-count
 overflow_add-count c = omega (arith, turn-count c.args.types [] [] (c.loop-r.invariant [] []).subs c.loop-r.count c.loop-r.at c.args.bytes.now (c.loop-r.invariant [] []).going.few (sym c.header-verdict.ensures ∙ c.in-Sound.is) c.if-bytes-at-eq127.false c.two-n.ensures)
 
-pub overflow_add-at : goal.overflow_add-at
-overflow_add-at c = omega (arith, turn-high c.args.types [] [] (c.loop-r.invariant [] []).subs c.loop-r.count c.loop-r.at c.args.bytes.now (c.loop-r.invariant [] []).going.few (sym c.header-verdict.ensures ∙ c.in-Sound.is) c.if-bytes-at-eq127.false c.two.ensures)
+pub overflow_add-at-in-loop-r-3 : goal.overflow_add-at-in-loop-r-3
+overflow_add-at-in-loop-r-3 c = omega (arith, turn-high c.args.types [] [] (c.loop-r.invariant [] []).subs c.loop-r.count c.loop-r.at c.args.bytes.now (c.loop-r.invariant [] []).going.few (sym c.header-verdict.ensures ∙ c.in-Sound.is) c.if-bytes-at-eq127.false c.two-n.ensures)
 
 pub overflow_add-at-in-loop-r-4 : goal.overflow_add-at-in-loop-r-4
-overflow_add-at-in-loop-r-4 c = omega (arith, c.well-formed, turn-room c.args.types [] [] (c.loop-r.invariant [] []).subs c.loop-r.count c.loop-r.at c.args.bytes.now (c.loop-r.invariant [] []).going.few (sym c.header-verdict.ensures ∙ c.in-Sound.is) c.if-bytes-at-eq127.false c.two-n.ensures)
+overflow_add-at-in-loop-r-4 c = omega (arith, c.well_formed, turn-room c.args.types [] [] (c.loop-r.invariant [] []).subs c.loop-r.count c.loop-r.at c.args.bytes.now (c.loop-r.invariant [] []).going.few (sym c.header-verdict.ensures ∙ c.in-Sound.is) c.if-bytes-at-eq127.false c.two-n.ensures)
 
 pub loop-r-smaller : goal.loop-r-smaller
 loop-r-smaller c = omega (arith, turn-count c.args.types [] [] (c.loop-r.invariant [] []).subs c.loop-r.count c.loop-r.at c.args.bytes.now (c.loop-r.invariant [] []).going.few (sym c.header-verdict.ensures ∙ c.in-Sound.is) c.if-bytes-at-eq127.false c.two-n.ensures)
 
 pub loop-r-preserved : goal.loop-r-preserved
-loop-r-preserved c = λ source target. let d = c.before in
-    let low = turn_low d.before.before.before.before.before.before.before.before.before.before.before.before.before.before.before.before.args.types source target (d.before.before.before.before.before.before.before.before.before.before.before.before.loop.invariant source target).subs d.before.before.before.before.before.before.before.before.before.before.before.before.loop.count d.before.before.before.before.before.before.before.before.before.before.before.before.loop.at d.before.before.before.before.before.before.before.before.before.before.before.before.before.before.before.before.args.bytes.now (d.before.before.before.before.before.before.before.before.before.before.before.before.loop.invariant source target).going.few (sym d.before.before.before.before.before.before.before.before.before.before.before.header.ensures ∙ d.before.before.before.before.before.before.before.before.before.enum_told.given.1) d.before.before.before.before.before.before.before.if1.false d.before.before.before.before.before.before.two.ensures in
-    let high = turn-high d.before.before.before.before.before.before.before.before.before.before.before.before.before.before.before.before.args.types source target (d.before.before.before.before.before.before.before.before.before.before.before.before.loop.invariant source target).subs d.before.before.before.before.before.before.before.before.before.before.before.before.loop.count d.before.before.before.before.before.before.before.before.before.before.before.before.loop.at d.before.before.before.before.before.before.before.before.before.before.before.before.before.before.before.before.args.bytes.now (d.before.before.before.before.before.before.before.before.before.before.before.before.loop.invariant source target).going.few (sym d.before.before.before.before.before.before.before.before.before.before.before.header.ensures ∙ d.before.before.before.before.before.before.before.before.before.enum_told.given.1) d.before.before.before.before.before.before.before.if1.false d.before.before.before.before.before.before.two.ensures in
-    let boxes : length d.before.before.before.before.before.subscriber-at.result.boxes ≡ 4 = ap (λ (s : Subscriber). length s.boxes) d.before.before.before.before.before.subscriber-at.ensures ∙ boxes-length ((d.before.before.before.before.before.before.two.result - 13) / 2) (drop (d.before.before.before.before.before.before.before.before.before.before.before.before.loop.at + 3) d.before.before.before.before.before.before.before.before.before.before.before.before.before.before.before.before.args.bytes.now) (omega arith) in
-    let own = passed (keeps-is d.before.before.before.before.before.before.before.before.before.before.before.before.before.before.before.before.args.types (d.before.before.before.before.before.before.before.before.before.before.before.before.loop.invariant source target).subs d.before.before.before.before.before.before.before.before.before.before.before.before.loop.count d.before.before.before.before.before.subscriber-at.result d.before.before.before.before.before.before.before.before.before.before.before.before.loop.taken (rw (d.before.before.before.before.before.before.before.before.before.before.before.before.loop.invariant source target).going.places (turn-count d.before.before.before.before.before.before.before.before.before.before.before.before.before.before.before.before.args.types source target (d.before.before.before.before.before.before.before.before.before.before.before.before.loop.invariant source target).subs d.before.before.before.before.before.before.before.before.before.before.before.before.loop.count d.before.before.before.before.before.before.before.before.before.before.before.before.loop.at d.before.before.before.before.before.before.before.before.before.before.before.before.before.before.before.before.args.bytes.now (d.before.before.before.before.before.before.before.before.before.before.before.before.loop.invariant source target).going.few (sym d.before.before.before.before.before.before.before.before.before.before.before.header.ensures ∙ d.before.before.before.before.before.before.before.before.before.enum_told.given.1) d.before.before.before.before.before.before.before.if1.false d.before.before.before.before.before.before.two.ensures)) (d.before.before.before.before.before.before.before.before.before.before.before.before.loop.invariant source target).going.kept (d.before.before.before.before.before.before.before.before.before.before.before.before.loop.invariant source target).going.table (d.before.before.before.before.before.before.before.before.before.before.before.before.loop.invariant source target).going.last-is d.before.before.before.keeps.ensures) d.before.before.if2.false in
-    let room = (turn-count d.before.before.before.before.before.before.before.before.before.before.before.before.before.before.before.before.args.types source target (d.before.before.before.before.before.before.before.before.before.before.before.before.loop.invariant source target).subs d.before.before.before.before.before.before.before.before.before.before.before.before.loop.count d.before.before.before.before.before.before.before.before.before.before.before.before.loop.at d.before.before.before.before.before.before.before.before.before.before.before.before.before.before.before.before.args.bytes.now (d.before.before.before.before.before.before.before.before.before.before.before.before.loop.invariant source target).going.few (sym d.before.before.before.before.before.before.before.before.before.before.before.header.ensures ∙ d.before.before.before.before.before.before.before.before.before.enum_told.given.1) d.before.before.before.before.before.before.before.if1.false d.before.before.before.before.before.before.two.ensures) in
-    let going = going_on d.before.before.before.before.before.before.before.before.before.before.before.before.before.before.before.before.args.bytes.now d.before.before.before.before.before.before.before.before.before.before.before.before.before.before.before.before.args.types source target d.before.before.before.before.before.before.before.before.before.before.before.before.loop.taken (d.before.before.before.before.before.before.before.before.before.before.before.before.loop.invariant source target).subs d.before.before.before.before.before.before.before.before.before.before.before.before.loop.count d.before.before.before.before.before.before.before.before.before.before.before.before.loop.last d.before.before.before.before.before.before.before.before.before.before.before.before.loop.at _ d.before.before.before.before.before.subscriber-at.result (d.before.before.before.before.before.before.before.before.before.before.before.before.loop.invariant source target).going
-    (turn-count d.before.before.before.before.before.before.before.before.before.before.before.before.before.before.before.before.args.types source target (d.before.before.before.before.before.before.before.before.before.before.before.before.loop.invariant source target).subs d.before.before.before.before.before.before.before.before.before.before.before.before.loop.count d.before.before.before.before.before.before.before.before.before.before.before.before.loop.at d.before.before.before.before.before.before.before.before.before.before.before.before.before.before.before.before.args.bytes.now (d.before.before.before.before.before.before.before.before.before.before.before.before.loop.invariant source target).going.few (sym d.before.before.before.before.before.before.before.before.before.before.before.header.ensures ∙ d.before.before.before.before.before.before.before.before.before.enum_told.given.1) d.before.before.before.before.before.before.before.if1.false d.before.before.before.before.before.before.two.ensures) (turn-room d.before.before.before.before.before.before.before.before.before.before.before.before.before.before.before.before.args.types source target (d.before.before.before.before.before.before.before.before.before.before.before.before.loop.invariant source target).subs d.before.before.before.before.before.before.before.before.before.before.before.before.loop.count d.before.before.before.before.before.before.before.before.before.before.before.before.loop.at d.before.before.before.before.before.before.before.before.before.before.before.before.before.before.before.before.args.bytes.now (d.before.before.before.before.before.before.before.before.before.before.before.before.loop.invariant source target).going.few (sym d.before.before.before.before.before.before.before.before.before.before.before.header.ensures ∙ d.before.before.before.before.before.before.before.before.before.enum_told.given.1) d.before.before.before.before.before.before.before.if1.false d.before.before.before.before.before.before.two.ensures) boxes own (turn_on d.before.before.before.before.before.before.before.before.before.before.before.before.before.before.before.before.args.types source target (d.before.before.before.before.before.before.before.before.before.before.before.before.loop.invariant source target).subs d.before.before.before.before.before.before.before.before.before.before.before.before.loop.count d.before.before.before.before.before.before.before.before.before.before.before.before.loop.at d.before.before.before.before.before.before.before.before.before.before.before.before.before.before.before.before.args.bytes.now (d.before.before.before.before.before.before.before.before.before.before.before.before.loop.invariant source target).going.few (sym d.before.before.before.before.before.before.before.before.before.before.before.header.ensures ∙ d.before.before.before.before.before.before.before.before.before.enum_told.given.1) d.before.before.before.before.before.before.before.if1.false d.before.before.before.before.before.before.two.ensures d.before.before.before.before.before.subscriber-at.ensures own) d.claim.ensures in
+loop-r-preserved c = λ source target. let low = turn_low c.args.types source target (c.loop-r.invariant source target).subs c.loop-r.count c.loop-r.at c.args.bytes.now (c.loop-r.invariant source target).going.few (sym c.header-verdict.ensures ∙ c.in-Sound.is) c.if-bytes-at-eq127.false c.two-n.ensures in
+    let high = turn-high c.args.types source target (c.loop-r.invariant source target).subs c.loop-r.count c.loop-r.at c.args.bytes.now (c.loop-r.invariant source target).going.few (sym c.header-verdict.ensures ∙ c.in-Sound.is) c.if-bytes-at-eq127.false c.two-n.ensures in
+    let boxes : length c.subscriber_at-s.result.boxes ≡ 4 = ap (λ (s : Subscriber). length s.boxes) c.subscriber_at-s.ensures ∙ boxes-length ((c.two-n.result - 13) / 2) (drop (c.loop-r.at + 3) c.args.bytes.now) (omega arith) in
+    let own = passed (keeps-is c.args.types (c.loop-r.invariant source target).subs c.loop-r.count c.subscriber_at-s.result c.loop-r.taken (rw (c.loop-r.invariant source target).going.places (turn-count c.args.types source target (c.loop-r.invariant source target).subs c.loop-r.count c.loop-r.at c.args.bytes.now (c.loop-r.invariant source target).going.few (sym c.header-verdict.ensures ∙ c.in-Sound.is) c.if-bytes-at-eq127.false c.two-n.ensures)) (c.loop-r.invariant source target).going.kept (c.loop-r.invariant source target).going.table (c.loop-r.invariant source target).going.last-is c.keeps.ensures) c.if-not-keeps.false-raw in
+    let room = (turn-count c.args.types source target (c.loop-r.invariant source target).subs c.loop-r.count c.loop-r.at c.args.bytes.now (c.loop-r.invariant source target).going.few (sym c.header-verdict.ensures ∙ c.in-Sound.is) c.if-bytes-at-eq127.false c.two-n.ensures) in
+    let going = going_on c.args.bytes.now c.args.types source target c.loop-r.taken (c.loop-r.invariant source target).subs c.loop-r.count c.loop-r.last c.loop-r.at _ c.subscriber_at-s.result (c.loop-r.invariant source target).going
+    (turn-count c.args.types source target (c.loop-r.invariant source target).subs c.loop-r.count c.loop-r.at c.args.bytes.now (c.loop-r.invariant source target).going.few (sym c.header-verdict.ensures ∙ c.in-Sound.is) c.if-bytes-at-eq127.false c.two-n.ensures) (turn-room c.args.types source target (c.loop-r.invariant source target).subs c.loop-r.count c.loop-r.at c.args.bytes.now (c.loop-r.invariant source target).going.few (sym c.header-verdict.ensures ∙ c.in-Sound.is) c.if-bytes-at-eq127.false c.two-n.ensures) boxes own (turn_on c.args.types source target (c.loop-r.invariant source target).subs c.loop-r.count c.loop-r.at c.args.bytes.now (c.loop-r.invariant source target).going.few (sym c.header-verdict.ensures ∙ c.in-Sound.is) c.if-bytes-at-eq127.false c.two-n.ensures c.subscriber_at-s.ensures own) c.claim.ensures in
     record {
       subs = _;
       going = going;
-      one-is = ⊎_elim (λ w. w.1 ∙ shown-new d.before.before.before.before.before.before.before.before.before.before.before.before.before.before.before.before.args.bytes.now d.before.before.before.before.before.before.before.before.before.before.before.before.before.before.before.before.args.types source target d.before.before.before.before.before.before.before.before.before.before.before.before.before.before.before.before.args.first d.before.before.before.before.before.before.before.before.before.before.before.before.before.before.before.before.args.second (d.before.before.before.before.before.before.before.before.before.before.before.before.loop.invariant source target).subs d.before.before.before.before.before.before.before.before.before.before.before.before.loop.count _ _ d.before.before.before.before.before.subscriber-at.result room (d.before.before.before.before.before.before.before.before.before.before.before.before.loop.invariant source target).going.places going d.before.before.before.before.before.before.before.before.before.before.before.before.before.before.before.before.args.first w.0.taken) (λ w. w.1 ∙ (d.before.before.before.before.before.before.before.before.before.before.before.before.loop.invariant source target).one-is ∙ shown-kept d.before.before.before.before.before.before.before.before.before.before.before.before.before.before.before.before.args.bytes.now d.before.before.before.before.before.before.before.before.before.before.before.before.before.before.before.before.args.types source target d.before.before.before.before.before.before.before.before.before.before.before.before.before.before.before.before.args.first d.before.before.before.before.before.before.before.before.before.before.before.before.before.before.before.before.args.second (d.before.before.before.before.before.before.before.before.before.before.before.before.loop.invariant source target).subs d.before.before.before.before.before.before.before.before.before.before.before.before.loop.count _ _ d.before.before.before.before.before.subscriber-at.result room (d.before.before.before.before.before.before.before.before.before.before.before.before.loop.invariant source target).going.places going d.before.before.before.before.before.before.before.before.before.before.before.before.before.before.before.before.args.first w.0.left) c.if-s-first.branch;
-      other-is = ⊎_elim (λ w. w.1 ∙ shown-new d.before.before.before.before.before.before.before.before.before.before.before.before.before.before.before.before.args.bytes.now d.before.before.before.before.before.before.before.before.before.before.before.before.before.before.before.before.args.types source target d.before.before.before.before.before.before.before.before.before.before.before.before.before.before.before.before.args.first d.before.before.before.before.before.before.before.before.before.before.before.before.before.before.before.before.args.second (d.before.before.before.before.before.before.before.before.before.before.before.before.loop.invariant source target).subs d.before.before.before.before.before.before.before.before.before.before.before.before.loop.count _ _ d.before.before.before.before.before.subscriber-at.result room (d.before.before.before.before.before.before.before.before.before.before.before.before.loop.invariant source target).going.places going d.before.before.before.before.before.before.before.before.before.before.before.before.before.before.before.before.args.second w.0.taken) (λ w. w.1 ∙ (d.before.before.before.before.before.before.before.before.before.before.before.before.loop.invariant source target).other-is ∙ shown-kept d.before.before.before.before.before.before.before.before.before.before.before.before.before.before.before.before.args.bytes.now d.before.before.before.before.before.before.before.before.before.before.before.before.before.before.before.before.args.types source target d.before.before.before.before.before.before.before.before.before.before.before.before.before.before.before.before.args.first d.before.before.before.before.before.before.before.before.before.before.before.before.before.before.before.before.args.second (d.before.before.before.before.before.before.before.before.before.before.before.before.loop.invariant source target).subs d.before.before.before.before.before.before.before.before.before.before.before.before.loop.count _ _ d.before.before.before.before.before.subscriber-at.result room (d.before.before.before.before.before.before.before.before.before.before.before.before.loop.invariant source target).going.places going d.before.before.before.before.before.before.before.before.before.before.before.before.before.before.before.before.args.second w.0.left) c.if-s-second.branch;
+      one-is = elim c.if-s-first.branch [ then-s-first w ↦ w.one-is ∙ shown-new c.args.bytes.now c.args.types source target c.args.first c.args.second (c.loop-r.invariant source target).subs c.loop-r.count _ _ c.subscriber_at-s.result room (c.loop-r.invariant source target).going.places going c.args.first w.if-s-first.true | else-s-first w ↦ w.one-is ∙ (c.loop-r.invariant source target).one-is ∙ shown-kept c.args.bytes.now c.args.types source target c.args.first c.args.second (c.loop-r.invariant source target).subs c.loop-r.count _ _ c.subscriber_at-s.result room (c.loop-r.invariant source target).going.places going c.args.first w.if-s-first.false ];
+      other-is = elim c.if-s-second.branch [ then-s-second w ↦ w.other-is ∙ shown-new c.args.bytes.now c.args.types source target c.args.first c.args.second (c.loop-r.invariant source target).subs c.loop-r.count _ _ c.subscriber_at-s.result room (c.loop-r.invariant source target).going.places going c.args.second w.if-s-second.true | else-s-second w ↦ w.other-is ∙ (c.loop-r.invariant source target).other-is ∙ shown-kept c.args.bytes.now c.args.types source target c.args.first c.args.second (c.loop-r.invariant source target).subs c.loop-r.count _ _ c.subscriber_at-s.result room (c.loop-r.invariant source target).going.places going c.args.second w.if-s-second.false ];
     }

@@ -71,8 +71,8 @@ bounds-subscribers-count c = turn-count c.args.types c.args.source c.args.target
 pub overflow_add-count : goal.overflow_add-count
 overflow_add-count c = omega (arith, turn-count c.args.types c.args.source c.args.target c.loop-r.subscribers c.loop-r.count c.loop-r.at c.args.bytes.now c.loop-r.invariant.few (sym c.header-verdict.ensures ∙ c.in-Sound.is) c.if-bytes-at-eq127.false c.two-n.ensures)
 
-pub overflow_add-at : goal.overflow_add-at
-overflow_add-at c = omega (arith, turn-high c.args.types c.args.source c.args.target c.loop-r.subscribers c.loop-r.count c.loop-r.at c.args.bytes.now c.loop-r.invariant.few (sym c.header-verdict.ensures ∙ c.in-Sound.is) c.if-bytes-at-eq127.false c.two.ensures)
+pub overflow_add-at-in-loop-r-3 : goal.overflow_add-at-in-loop-r-3
+overflow_add-at-in-loop-r-3 c = omega (arith, turn-high c.args.types c.args.source c.args.target c.loop-r.subscribers c.loop-r.count c.loop-r.at c.args.bytes.now c.loop-r.invariant.few (sym c.header-verdict.ensures ∙ c.in-Sound.is) c.if-bytes-at-eq127.false c.two-n.ensures)
 
 pub overflow_add-at-in-loop-r-4 : goal.overflow_add-at-in-loop-r-4
 overflow_add-at-in-loop-r-4 c = omega (arith, turn-room c.args.types c.args.source c.args.target c.loop-r.subscribers c.loop-r.count c.loop-r.at c.args.bytes.now c.loop-r.invariant.few (sym c.header-verdict.ensures ∙ c.in-Sound.is) c.if-bytes-at-eq127.false c.two-n.ensures)

@@ -1,0 +1,8 @@
+-- What the check does not find by itself of `made::continued_of`. Assumes nothing.
+use Rattle.made.specs.Made.{continued_setup}
+use borrow.Author.Rules.{rules}
+use Rattle.made.proofs.continued_of.Goals as goal
+
+pub returns : goal.returns
+unfolding continued_setup
+returns c = rw (← c.other-kept.ensures, ← c.string_or-dialled.ensures, ← c.kept_list.ensures) c.further.ensures

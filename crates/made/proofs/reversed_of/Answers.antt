@@ -1,0 +1,8 @@
+-- What the check does not find by itself of `made::reversed_of`. Assumes nothing.
+use Rattle.made.specs.Made.{reversed_setup}
+use borrow.Author.Rules.{rules}
+use Rattle.made.proofs.reversed_of.Goals as goal
+
+pub returns : goal.returns
+unfolding reversed_setup
+returns c = rw (← c.turned-back.ensures, ← c.routing-kept.ensures, ← c.string_or-dialled.ensures, ← c.empty_list.ensures) c.further.ensures

@@ -1,0 +1,14 @@
+-- What the check does not find by itself of `making::answered`. Assumes nothing.
+use mathlib.Core.Path.{sym, ap, ◌∙◌}
+use Rattle.making.specs.declared.Outcome.{Outcome}
+use Rattle.making.specs.Making.{answered}
+use borrow.Author.Rules.{rules}
+use Rattle.making.proofs.answered.Goals as goal
+
+pub returns-in-Made : goal.returns-in-Made
+unfolding answered
+returns-in-Made c = rw c.in-Made.is
+
+pub returns-in-Refused : goal.returns-in-Refused
+unfolding answered
+returns-in-Refused c = rw (c.in-Refused.is, c.blank_setup.ensures)

@@ -1,0 +1,10 @@
+-- What the check does not find by itself of `making::continued_tested`. Assumes nothing.
+use mathlib.Core.Path.{sym, ap₂, ◌∙◌}
+use Rattle.plan.specs.Find.{seen}
+use borrow.Author.Rules.{rules}
+use Rattle.making.proofs.continued_tested.Goals as goal
+
+pub returns : goal.returns
+returns c =
+    let p = c.args.plan in
+    c.continued_seen.ensures p (sym (c.look-v.ensures ∙ ap₂ (seen p) c.box_address.ensures c.routing_address.ensures))

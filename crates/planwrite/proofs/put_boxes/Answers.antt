@@ -1,0 +1,41 @@
+-- What the check does not find by itself of `planwrite::put_boxes`. Assumes nothing.
+use mathlib.Core.Path.{◌≡◌, refl, sym, ap, ◌∙◌}
+use native.Mathlib.Omega.{arith}
+use borrow.Author.Rules.{rules}
+use Prim.Native.Nat.{◌≤◌, ◌<◌, ◌-◌, ◌+◌, ◌*◌}
+use lib.ListN.{length, drop, take, length-take}
+use lib.Seq.{sets, length-sets, get_or-take}
+use Rattle.planbytes.specs.Numbers.{row}
+use Rattle.planwrite.proofs.Puts.{row-all, row_put, row-end}
+use Rattle.planwrite.proofs.put_boxes.Goals as goal
+
+pub loop-x-init : goal.loop-x-init
+loop-x-init c = (search rules, refl, row-all 2 _ _ _)
+
+pub overflow_add-at : goal.overflow_add-at
+overflow_add-at c = omega arith
+
+pub put_two-requires : goal.put_two-requires
+put_two-requires c = omega arith
+
+pub loop-x-preserved : goal.loop-x-preserved
+loop-x-preserved c =
+    let i = c.loop-x.invariant in
+    let long : length c.args.boxes ≡ 4 = search rules in
+    let some : c.loop-x.x < c.args.count = search rules in
+    let below : c.loop-x.x < length (take c.args.count c.args.boxes) = simp (length-take, long) (omega arith) in
+    let put = c.put_two.ensures in (
+      search rules,
+      ap length put ∙ simp length-sets i.1,
+      rw (put, ← get_or-take c.args.count c.args.boxes c.loop-x.x 0 some) (sym (row_put 2 (take c.args.count c.args.boxes) c.loop-x.room c.args.at c.loop-x.x below) ∙ i.2),
+    )
+
+pub shape_of-room : goal.shape_of-room
+shape_of-room c = c.loop-x.invariant.1
+
+pub returns : goal.returns
+returns c =
+    let long : length c.args.boxes ≡ 4 = search rules in
+    let end : c.loop-x.x ≡ c.args.count = omega arith in
+    let all : length (take c.args.count c.args.boxes) ≤ c.args.count = simp length-take (omega arith) in
+    sym (row-end 2 (take c.args.count c.args.boxes) c.loop-x.room (c.args.at + 2 * c.args.count) c.args.count all) ∙ rw end at c.loop-x.invariant.2

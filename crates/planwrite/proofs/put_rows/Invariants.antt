@@ -1,0 +1,14 @@
+-- What the check does not find by itself of `planwrite::put_rows`. Assumes nothing.
+use mathlib.Core.Path.{◌≡◌, refl, sym, ap, ◌∙◌}
+use native.Mathlib.Omega.{arith}
+use borrow.Author.Rules.{rules}
+use Prim.Native.Nat.{◌≤◌, ◌<◌, ◌-◌, ◌+◌, ◌*◌}
+use lib.ListN.{length, drop}
+use lib.Seq.{sets, length-sets}
+use Rattle.planbytes.specs.Numbers.{row}
+use Rattle.planbytes.specs.Format.{order_body}
+use Rattle.planwrite.proofs.Puts.{row-all, row_put, row-end}
+use Rattle.planwrite.proofs.put_rows.Given as goal
+
+abbrev pub invariant-loop-t : goal.invariant-loop-t
+invariant-loop-t l = (l.t ≤ 32) × (length l.room ≡ length l.initial.room) × (sets l.room (l.at + 4 * l.t) (row 4 (drop l.t l.rows)) ≡ sets l.initial.room l.at (row 4 l.rows))

@@ -1,0 +1,21 @@
+-- What the check does not find by itself of `routing::box_chosen`. Assumes nothing.
+use mathlib.Core.Path.{sym, ◌∙◌}
+use Rattle.setup.specs.Setups.{routing}
+use Rattle.routing.specs.Interface.{interface_at}
+use Rattle.routing.specs.Steps.{callee4}
+use Rattle.routing.proofs.Boxes.{interface-shown}
+use Rattle.routing.proofs.Chosen.{chosen_none, chosen-some}
+use borrow.Author.Rules.{rules}
+use Rattle.routing.proofs.box_chosen.Goals as goal
+
+pub returns-then-rest-eq0 : goal.returns-then-rest-eq0
+unfolding callee4
+returns-then-rest-eq0 c p shown =
+    let a = c.args in
+    c.interface_of.ensures ∙ sym (interface-shown p a.target shown) ∙ sym (chosen_none a.rest.now _ _ c.if-rest-eq0.true)
+
+pub returns : goal.returns
+unfolding callee4
+returns c p shown =
+    let a = c.args in
+    rw c.routing.ensures (sym (chosen-some a.rest.now (routing a.region a.source a.target) (interface_at p a.target) c.if-rest-eq0.false))

@@ -1,0 +1,20 @@
+-- What the check does not find by itself of `routing::box_of`. Assumes nothing.
+use borrow.Author.Tests.{eq-eqb, ne_eqb}
+use Rattle.routing.specs.Interface.{box_of}
+use Rattle.routing.proofs.box_of.Goals as goal
+
+pub returns-then-kind-eq1 : goal.returns-then-kind-eq1
+unfolding box_of
+returns-then-kind-eq1 c = rw (eq-eqb _ 1 c.if-kind-eq1.true)
+
+pub returns-then-kind-eq2 : goal.returns-then-kind-eq2
+unfolding box_of
+returns-then-kind-eq2 c = rw (ne_eqb _ 1 c.if-kind-eq1.false, eq-eqb _ 2 c.if-kind-eq2.true)
+
+pub returns-then-kind-eq3 : goal.returns-then-kind-eq3
+unfolding box_of
+returns-then-kind-eq3 c = rw (ne_eqb _ 1 c.if-kind-eq1.false, ne_eqb _ 2 c.if-kind-eq2.false, eq-eqb _ 3 c.if-kind-eq3.true)
+
+pub returns : goal.returns
+unfolding box_of
+returns c = rw (ne_eqb _ 1 c.if-kind-eq1.false, ne_eqb _ 2 c.if-kind-eq2.false, ne_eqb _ 3 c.if-kind-eq3.false)

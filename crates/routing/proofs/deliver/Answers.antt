@@ -1,0 +1,16 @@
+-- What the check does not find by itself of `routing::deliver`. Assumes nothing.
+use mathlib.Core.Path.{refl}
+use Rattle.routing.specs.Routing.{answered}
+use Rattle.routing.specs.Places.{delivered}
+use Rattle.routing.proofs.Parts.{tail-length}
+use borrow.Author.Rules.{rules}
+use Rattle.routing.proofs.deliver.Goals as goal
+
+pub returns : goal.returns
+unfolding delivered answered
+returns c =
+    let rest = c.args.rest.now in
+    record {
+      value = λ p shown. rw (c.box_chosen.ensures p shown, c.received.ensures, c.less.ensures, tail-length rest);
+      routed = refl;
+    }

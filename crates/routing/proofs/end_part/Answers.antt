@@ -1,0 +1,7 @@
+-- What the check does not find by itself of `routing::end_part`. Assumes nothing.
+use Rattle.routing.proofs.Parts.{part_cut}
+use borrow.Author.Rules.{rules}
+use Rattle.routing.proofs.end_part.Goals as goal
+
+pub returns : goal.returns
+returns c = rw (c.at_most-start.ensures, c.at_most-to.ensures) (part_cut c.args.list.now c.args.from c.args.end)

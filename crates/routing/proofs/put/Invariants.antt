@@ -1,0 +1,17 @@
+-- What the check does not find by itself of `routing::put`. Assumes nothing.
+use mathlib.Core.Path.{◌≡◌, refl, sym, ap, ◌∙◌}
+use Prim.Native.Nat.{◌+◌, ◌-◌, ◌≤◌, ◌<◌}
+use native.Mathlib.Omega.{arith}
+use lib.ListN.{length, take, drop, length-set}
+use lib.Seq.{sets}
+use Rattle.setup.specs.Setups.{list_of}
+use Rattle.routing.proofs.Parts.{list-short, list-cut, store-next, store-done}
+use borrow.Author.Rules.{rules}
+use Rattle.routing.proofs.put.Given as goal
+
+abbrev pub invariant-loop-i : goal.invariant-loop-i
+invariant-loop-i l =
+    (l.i ≤ l.end) × (length l.list ≡ length l.initial.list) × (sets l.list l.i (drop l.i (take l.end l.types)) ≡ sets l.initial.list 0 (take l.end l.types))
+
+abbrev pub decreases-loop-i : goal.decreases-loop-i
+decreases-loop-i l = l.end - l.i

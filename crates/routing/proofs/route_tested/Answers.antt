@@ -1,0 +1,9 @@
+-- What the check does not find by itself of `routing::route_tested`. Assumes nothing.
+use mathlib.Core.Path.{sym}
+use borrow.Author.Rules.{rules}
+use Rattle.routing.proofs.route_tested.Goals as goal
+
+pub returns : goal.returns
+returns c =
+    let shown = rw c.extracted.ensures at c.look-v.ensures in
+    c.route_seen.ensures.value c.args.plan (sym shown)

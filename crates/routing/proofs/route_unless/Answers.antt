@@ -1,0 +1,9 @@
+-- What the check does not find by itself of `routing::route_unless`. Assumes nothing.
+use borrow.Author.Rules.{rules}
+use Rattle.routing.proofs.route_unless.Goals as goal
+
+pub returns : goal.returns
+returns c =
+    let tested = c.route_tested.ensures in
+    let kept = c.sound-kept.ensures in
+    (rw kept at tested.0, rw kept at tested.1, rw kept at tested.2)
