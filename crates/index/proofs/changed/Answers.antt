@@ -1,0 +1,8 @@
+-- What the check does not find by itself of `index::changed`. Assumes nothing.
+use mathlib.Core.Path.{refl}
+use Rattle.index.specs.Index.{changed}
+use Rattle.index.proofs.changed.Goals as goal
+
+pub returns : goal.returns
+unfolding changed
+returns c = refl

@@ -1,0 +1,7 @@
+-- What the check does not find by itself of `index::differing`. Assumes nothing.
+use Rattle.index.specs.Steps.{differing}
+use Rattle.index.proofs.differing.Goals as goal
+
+pub returns : goal.returns
+unfolding differing
+returns c = rw (c.join.ensures, c.minus-2.ensures, c.minus.ensures)
