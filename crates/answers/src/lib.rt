@@ -1,5 +1,6 @@
 // What the archives tell a C program: a number and a value.
 #![tactic(auto)]
+
 ghost use Rattle.std.specs.Prelude.{◌≡◌};
 ghost use Rattle.answers.specs.Said.{place_number, accepted, refusal};
 

@@ -1,5 +1,6 @@
 // What the calls' script (`call_trials`) is made of: the words of a line, what it asks with them and what came, told in them; and records by value that are lent to the operations on structs.
 #![tactic(auto)]
+
 pub mod asked;
 pub mod names;
 pub mod told;
@@ -26,7 +27,7 @@ pub fn port_command_in(mut port: Call, k: Command) -> Step
 }
 
 // What a command answers, and the records after it.
-#[derive(Drop)]
+#[derive(Clone, Copy)]
 pub struct Answered {
     pub answer: Answer,
     pub calls: [Call; 4],
@@ -49,7 +50,7 @@ pub fn command_in(mut calls: [Call; 4], n: usize, r: usize, use_number: u16, k: 
 }
 
 // What placing answers, and the port's record after it.
-#[derive(Drop)]
+#[derive(Clone, Copy)]
 pub struct PortPlaced {
     pub call: Call,
     pub placed: Placed,
@@ -71,7 +72,7 @@ pub fn place_port_in(
 }
 
 // What placing answers, and the records after it.
-#[derive(Drop)]
+#[derive(Clone, Copy)]
 pub struct RowPlaced {
     pub placed: Placed,
     pub calls: [Call; 4],

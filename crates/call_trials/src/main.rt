@@ -5,24 +5,25 @@
 // What comes: the answer, what was sent, and both states after it; or a refusal alone.
 // A row of more than four records is made for one line only, `row N .., record N .., then COMMAND`, of bytes alone: rows of so many structs, copied, would not go on the stack.
 #![tactic(auto)]
+
 mod records;
 
-ghost use Rattle.io.specs.Counts.{IsPrefixLen};
+ghost use Rattle.std.specs.Counts.{IsPrefixLen};
 
 use call::{Call, Command, Side};
 use call_script::{asked, names, told};
 use console::{Tally, Words};
 use ends::Signal;
-use libc::STDIN_FILENO;
 use making::Maker;
 use plan::{Plan, Seen};
 use recordbytes::Commanded;
 use setup::Setup;
+use std::io;
 
 // ---- the scene
 
 // A port and a row in bytes, and how many of its four records the row has. The structs are read from them, and what becomes of the structs has to be what becomes of the bytes.
-#[derive(Drop)]
+#[derive(Clone, Copy)]
 struct Scene {
     port: [u8; 614],
     row: [u8; 2456],
@@ -30,7 +31,7 @@ struct Scene {
 }
 
 // What came, in words, and the scene after it.
-#[derive(Drop)]
+#[derive(Clone, Copy)]
 struct Came {
     words: Words,
     scene: Scene,
@@ -149,7 +150,7 @@ fn with_calls(s: Scene, calls: [Call; 4]) -> Scene {
 
 // ---- a command by numbers, as the bytes take it
 
-#[derive(Drop)]
+#[derive(Clone, Copy)]
 struct Numbers {
     kind: u8,
     side: u8,
@@ -320,18 +321,16 @@ fn mixed(d: u64, b: u8) -> u64 {
 // A check sum of all bytes but the 614 from a place on.
 fn digest(row: &[u8], at: usize) -> u64 {
     let mut d: u64 = 0;
-    let mut i: usize = 0;
-    while i < row.len() {
+    for i in 0usize..row.len() {
         if i < at || 614 <= i - at {
             d = mixed(d, row[i]);
         }
-        i += 1;
     }
     d
 }
 
 // A command for a record of a row: which, by which use number, and what.
-#[derive(Drop)]
+#[derive(Clone, Copy)]
 struct Named {
     record: usize,
     use_number: u16,
@@ -452,12 +451,10 @@ fn same_places(a: &[u8], b: &[u8]) -> bool {
     if a.len() != b.len() {
         return false;
     }
-    let mut i: usize = 0;
-    while i < a.len() {
+    for i in 0usize..a.len() {
         if a[i] != b[i] {
             return false;
         }
-        i += 1;
     }
     true
 }
@@ -623,43 +620,44 @@ fn after_line(s: Scene, asked: Words) -> Came {
 }
 
 // The tally and the scene after a line.
-#[derive(Drop)]
+#[derive(Clone, Copy)]
 struct State {
     tally: Tally,
     scene: Scene,
 }
 
-fn judged(s: State, text: &[u8], w: Words) -> State {
+fn judged(rt: &impl Print, s: State, text: &[u8], w: Words) -> io::Result<State> {
     let before = s.scene;
     let tally = s.tally;
     let sign = console::place_of(w, console::EQUALS);
     let came = after_line(before, console::part(w, 0, sign));
     let words = came.words;
     let scene = came.scene;
-    State {
-        tally: console::judged(tally, text, w, words),
+    Ok(State {
+        tally: console::judged(rt, tally, text, w, words)?,
         scene,
-    }
+    })
 }
 
 // A line without the sign only sets the scene.
-fn one_line(s: State, text: &[u8]) -> State {
+fn one_line(rt: &impl Print, s: State, text: &[u8]) -> io::Result<State> {
     let tally = console::next_line(s.tally);
     let scene = s.scene;
     if console::is_remark(text) {
-        return State { tally, scene };
+        return Ok(State { tally, scene });
     }
     let w = console::words_of(text);
     if asked::sets_only(w) {
-        return State {
+        return Ok(State {
             tally,
             scene: scened(scene, w),
-        };
+        });
     }
-    judged(State { tally, scene }, text, w)
+    judged(rt, State { tally, scene }, text, w)
 }
 
-fn main() {
+fn main(rt: HostRuntime) -> io::Result<()> {
+    let mut input = rt.reader();
     let mut text = [0u8; 1000];
     let mut s = State {
         tally: console::no_tally(),
@@ -670,12 +668,12 @@ fn main() {
         },
     };
     for _ in 0u32..100000u32 {
-        let read = console::read_line(STDIN_FILENO, &mut text);
+        let read = console::read_line(&mut input, &mut text)?;
         if read.ended {
             break;
         }
         let n = read.len;
-        s = one_line(s, &text[..n]);
+        s = one_line(&rt, s, &text[..n])?;
     }
-    console::finish(s.tally);
+    console::finish(&rt, s.tally)
 }

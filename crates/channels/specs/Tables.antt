@@ -1,6 +1,6 @@
 -- THE TABLES OF BOTH PROGRAMS, as docs/CHANNELS.md has them, computed from the definitions: a row for each state, from unused to end_chan, and in it the state that open, oack, onack, ready, status, close and closeack lead to, as they are sent and as they are taken. Assumes nothing.
 use Rattle.std.specs.Prelude.{ℕ, ◌≡◌, refl, Bool, true, false, List, [], ◌∷◌, map}
-use Rattle.channels.specs.Channels.{unused, opening, opened, oacked, oacking, readying, readied, closing, closing2, closing3, closed, end_chan, no_state, «open», oack, onack, ready, close, closeack, status, follows}
+use Rattle.channels.specs.Channels.{opening, opened, oacked, oacking, readying, readied, closing, closing2, closing3, closed, end_chan, no_state, «open», oack, onack, ready, close, closeack, status, follows}
 
 -- no step
 abbrev no : ℕ

@@ -1,11 +1,12 @@
 // Draws a conference from a script on standard input: a line is an operation on the links of one box (manual 11.2), `hear 3.1 from 1.1`, `stop 3.1 from 1.1`, `drop 2` or `show`.
 // A termination is written port.channel. `show` tells who hears whom as a table and as a picture. Lines that begin with `-` are remarks; they and any others are only repeated.
 #![tactic(auto)]
+
 ghost use Rattle.std.specs.Prelude.{◌≤◌, ◌<◌};
 
 use console::Words;
-use libc::STDIN_FILENO;
 use links::{Outcome, Summed, Termination};
+use std::io;
 
 const HEAR: usize = 0;
 
@@ -45,10 +46,10 @@ fn channel(t: u64) -> u64 {
     t % 65536
 }
 
-fn say_termination(t: u64) {
-    console::say_number(port(t));
-    console::say_byte(b'.');
-    console::say_number(channel(t));
+fn say_termination(rt: &impl Print, t: u64) -> io::Result<()> {
+    console::say_number(rt, port(t))?;
+    console::say_byte(rt, b'.')?;
+    console::say_number(rt, channel(t))
 }
 
 fn digits(n: u64) -> u64
@@ -66,12 +67,13 @@ fn digits(n: u64) -> u64
     if n < 10000 { 4 } else { 5 }
 }
 
-fn say_times(c: u8, n: u64) {
+fn say_times(rt: &impl Print, c: u8, n: u64) -> io::Result<()> {
     for i in 0u64..16u64 {
         if i < n {
-            console::say_byte(c);
+            console::say_byte(rt, c)?;
         }
     }
+    Ok(())
 }
 
 // How many signs a termination leaves of a column.
@@ -80,9 +82,9 @@ fn left(t: u64) -> u64 {
 }
 
 // A termination, and this sign after it up to the column's end.
-fn say_column(t: u64, c: u8) {
-    say_termination(t);
-    say_times(c, left(t));
+fn say_column(rt: &impl Print, t: u64, c: u8) -> io::Result<()> {
+    say_termination(rt, t)?;
+    say_times(rt, c, left(t))
 }
 
 // The sink or the source of a link.
@@ -115,39 +117,40 @@ fn holds(m: [u64; 64], x: u64) -> bool {
 }
 
 // The sources of all links, a column for each; for the head of the table, and for the row of a sink.
-fn say_sources(m: [u64; 64], head: bool, sink: u64) {
+fn say_sources(rt: &impl Print, m: [u64; 64], head: bool, sink: u64) -> io::Result<()> {
     let mut t = lowest(m, 0, false);
     for _ in 0u32..64u32 {
         if t < NONE {
             if head {
-                say_times(b' ', left(t));
-                say_termination(t);
+                say_times(rt, b' ', left(t))?;
+                say_termination(rt, t)?;
             } else {
-                say_times(b' ', 12);
-                console::say_byte(mark(holds(m, sink % NONE * NONE + t)));
+                say_times(rt, b' ', 12)?;
+                console::say_byte(rt, mark(holds(m, sink % NONE * NONE + t)))?;
             }
             t = lowest(m, t + 1, false);
         }
     }
-    console::say_byte(10);
+    console::say_byte(rt, 10)
 }
 
 fn mark(held: bool) -> u8 {
     if held { b'x' } else { b'.' }
 }
 
-fn say_table(m: [u64; 64]) {
-    console::say(b"  hears        ");
-    say_sources(m, true, 0);
+fn say_table(rt: &impl Print, m: [u64; 64]) -> io::Result<()> {
+    console::say(rt, b"  hears        ")?;
+    say_sources(rt, m, true, 0)?;
     let mut t = lowest(m, 0, true);
     for _ in 0u32..64u32 {
         if t < NONE {
-            console::say(b"  ");
-            say_column(t, b' ');
-            say_sources(m, false, t);
+            console::say(rt, b"  ")?;
+            say_column(rt, t, b' ')?;
+            say_sources(rt, m, false, t)?;
             t = lowest(m, t + 1, true);
         }
     }
+    Ok(())
 }
 
 fn wide(n: u32) -> u64 {
@@ -155,23 +158,24 @@ fn wide(n: u32) -> u64 {
 }
 
 // The sources of one sink, one under the other, and an arrow from all of them.
-fn say_arrows(room: [u32; 64], count: usize, sink: u64) {
+fn say_arrows(rt: &impl Print, room: [u32; 64], count: usize, sink: u64) -> io::Result<()> {
     for i in 0usize..64usize {
         if i < count {
-            console::say(b"  ");
-            say_column(wide(room[i]), b'-');
+            console::say(rt, b"  ")?;
+            say_column(rt, wide(room[i]), b'-')?;
             if i + 1 < count {
-                console::say(b"+\n");
+                console::say(rt, b"+\n")?;
             } else {
-                console::say(b"+--> ");
-                say_termination(sink);
-                console::say_byte(10);
+                console::say(rt, b"+--> ")?;
+                say_termination(rt, sink)?;
+                console::say_byte(rt, 10)?;
             }
         }
     }
+    Ok(())
 }
 
-fn say_sink(m: [u64; 64], t: u64) {
+fn say_sink(rt: &impl Print, m: [u64; 64], t: u64) -> io::Result<()> {
     let sink = Termination {
         port: field(port(t)),
         channel: field(channel(t)),
@@ -179,84 +183,87 @@ fn say_sink(m: [u64; 64], t: u64) {
     let mut room = [0u32; 64];
     let l = links::sources(&m, sink, &mut room);
     match l {
-        Summed::Count(n) => say_arrows(room, n, t),
-        Summed::Refused(r) => console::say_refused(r),
+        Summed::Count(n) => say_arrows(rt, room, n, t),
+        Summed::Refused(r) => console::say_refused(rt, r),
     }
 }
 
-fn say_picture(m: [u64; 64]) {
+fn say_picture(rt: &impl Print, m: [u64; 64]) -> io::Result<()> {
     let mut t = lowest(m, 0, true);
     for _ in 0u32..64u32 {
         if t < NONE {
-            say_sink(m, t);
+            say_sink(rt, m, t)?;
             t = lowest(m, t + 1, true);
         }
     }
+    Ok(())
 }
 
-fn show(m: [u64; 64]) {
-    console::say_byte(10);
+fn show(rt: &impl Print, m: [u64; 64]) -> io::Result<()> {
+    console::say_byte(rt, 10)?;
     if m[0] == 0 {
-        console::say(b"  nobody hears anybody\n");
+        console::say(rt, b"  nobody hears anybody\n")?;
     } else {
-        say_table(m);
-        console::say_byte(10);
-        say_picture(m);
+        say_table(rt, m)?;
+        console::say_byte(rt, 10)?;
+        say_picture(rt, m)?;
     }
-    console::say_byte(10);
+    console::say_byte(rt, 10)
 }
 
 // ---- all lines
 
-fn say_outcome(o: Outcome) {
-    console::say(b" = ");
+fn say_outcome(rt: &impl Print, o: Outcome) -> io::Result<()> {
+    console::say(rt, b" = ")?;
     match o {
-        Outcome::Done => console::say(b"done"),
-        Outcome::Refused(r) => console::say_refused(r),
+        Outcome::Done => console::say(rt, b"done")?,
+        Outcome::Refused(r) => console::say_refused(rt, r)?,
     }
-    console::say_byte(10);
+    console::say_byte(rt, 10)
 }
 
 // The box's links.
-#[derive(Drop)]
+#[derive(Clone, Copy)]
 struct Conference {
     links: [u64; 64],
 }
 
-fn with_line(c: Conference, text: &[u8]) -> Conference {
+fn with_line(rt: &impl Print, c: Conference, text: &[u8]) -> io::Result<Conference> {
     let mut m = c.links;
-    console::say(text);
+    console::say(rt, text)?;
     if console::is_remark(text) {
-        console::say_byte(10);
-        return c;
+        console::say_byte(rt, 10)?;
+        return Ok(c);
     }
     let w = console::words_of(text);
     let sink = termination(w, 0);
     let source = termination(w, 3);
     match operation(w) {
-        HEAR => say_outcome(links::add(&mut m, sink, source)),
-        STOP => say_outcome(links::remove(&mut m, sink, source)),
-        DROP => say_outcome(links::drop(&mut m, sink.port)),
-        SHOW => show(m),
-        _ => console::say_byte(10),
+        HEAR => say_outcome(rt, links::add(&mut m, sink, source))?,
+        STOP => say_outcome(rt, links::remove(&mut m, sink, source))?,
+        DROP => say_outcome(rt, links::drop(&mut m, sink.port))?,
+        SHOW => show(rt, m)?,
+        _ => console::say_byte(rt, 10)?,
     }
-    Conference { links: m }
+    Ok(Conference { links: m })
 }
 
 // The bound is more than any script has: a loop must end.
-fn all_lines() {
+fn all_lines(rt: &(impl Input + Print)) -> io::Result<()> {
+    let mut input = rt.reader();
     let mut c = Conference { links: [0u64; 64] };
     let mut line = [0u8; 200];
     for _ in 0u32..100_000u32 {
-        let read = console::read_line(STDIN_FILENO, &mut line);
+        let read = console::read_line(&mut input, &mut line)?;
         if read.ended {
-            return;
+            return Ok(());
         }
         let n = read.len;
-        c = with_line(c, &line[..n]);
+        c = with_line(rt, c, &line[..n])?;
     }
+    Ok(())
 }
 
-fn main() {
-    all_lines();
+fn main(rt: HostRuntime) -> io::Result<()> {
+    all_lines(&rt)
 }

@@ -3,78 +3,122 @@
 // A trial program reads a table, a line a case: `title: what is asked = what is expected`. It answers in words, and `judged` holds them against the words that the line expects.
 // A word is a name of letters, a number, or one symbol of a string in quotes. Everything else between words, commas and brackets say, is for the reader. A line that begins with `-` is a remark.
 #![tactic(auto)]
-ghost use Rattle.std.specs.Prelude.{◌≡◌, ◌≤◌, true, not, length, drop, ◌==◌, slice_index};
-ghost use Rattle.typeset.specs.Sets.{every};
-ghost use Rattle.io.specs.Counts.{IsPrefixLen};
 
-use libc::STDOUT_FILENO;
+ghost use Rattle.std.specs.Prelude.{◌≡◌, ◌≤◌, ℕ, true, not, length, drop, ◌==◌, slice_index, IfOk, OnErr, IfSome};
+ghost use Rattle.std.specs.Counts.{IsPrefixLen};
+ghost use Rattle.typeset.specs.Sets.{every};
+
 use refusal::{Place, Refusal};
+use std::env::FillError;
+use std::io;
+use std::io::Read;
+use std::rt::Env;
 
 // ---- printing
 
-pub fn say(text: &[u8]) {
-    io::write_all(STDOUT_FILENO, text);
+pub fn say(rt: &impl Print, text: &[u8]) -> io::Result<()> {
+    rt.write_all(text)
 }
 
-pub fn say_byte(c: u8) {
+pub fn say_byte(rt: &impl Print, c: u8) -> io::Result<()> {
     let one = [c];
-    say(&one);
+    say(rt, &one)
 }
 
-pub fn say_number(n: u64) {
-    io::print_decimal(STDOUT_FILENO, n);
+pub fn say_number(rt: &impl Print, n: u64) -> io::Result<()> {
+    rt.print(n)
 }
 
 // `refused N`, with ` at P` where the refusal has a place.
-pub fn say_refused(r: Refusal) {
-    say(b"refused ");
-    say_number(r.number() as u64);
+pub fn say_refused(rt: &impl Print, r: Refusal) -> io::Result<()> {
+    say(rt, b"refused ")?;
+    say_number(rt, r.number() as u64)?;
     match r.place() {
         Place::At(at) => {
-            say(b" at ");
-            say_number(at as u64);
+            say(rt, b" at ")?;
+            say_number(rt, at as u64)
         }
-        Place::Nowhere => {}
+        Place::Nowhere => Ok(()),
     }
 }
 
 // ---- a line
 
 // How many bytes a line has. `ended` says that the input was at its end, so that there was no line at all.
-#[derive(Drop)]
+#[derive(Clone, Copy)]
 pub struct Line {
     pub len: usize,
     pub ended: bool,
 }
 
-// Reads a descriptor up to a newline, the end or the end of the room. None of the bytes is a newline, and what stood past them stays. Which bytes they are, the contract of reading does not say.
-pub fn read_line(fd: i32, line: &mut [u8]) -> Line
-    ensures len_in_bounds { (result.len ≤ length line.new) × (every result.len (λ i. not (slice_index line.new i == 10)) ≡ true) × (drop result.len line.new ≡ drop result.len line.old) }
-    ensures counted { IsPrefixLen result.len line.new }
+// Reads up to a newline, the end or the end of the room. None of the bytes is a newline, and what stood past them stays; that holds too of the bytes before a read that failed. Which bytes they are, the contract of reading does not say.
+pub fn read_line<R: Read>(input: &mut R, line: &mut [u8]) -> io::Result<Line>
+    ensures len_in_bounds { IfOk result (λ r. (r.len ≤ length line.new) × (every r.len (λ i. not (slice_index line.new i == 10)) ≡ true) × (drop r.len line.new ≡ drop r.len line.old)) }
+    ensures counted { IfOk result (λ r. IsPrefixLen r.len line.new) }
+    ensures err { OnErr result ((n : ℕ) × (n ≤ length line.new) × (every n (λ i. not (slice_index line.new i == 10)) ≡ true) × (drop n line.new ≡ drop n line.old)) }
 {
-    let mut n: usize = 0;
-    while n < line.len() {
+    for n in 0usize..line.len() {
         let mut one = [0u8; 1];
-        if io::read_full(fd, &mut one) == 0 {
-            return Line {
+        if input.read(&mut one)? == 0 {
+            return Ok(Line {
                 len: n,
                 ended: n == 0,
-            };
+            });
         }
         if one[0] == 10 {
-            return Line {
+            return Ok(Line {
                 len: n,
                 ended: false,
-            };
+            });
         }
         line[n] = one[0];
-        n += 1;
     }
-    Line {
-        len: n,
+    Ok(Line {
+        len: line.len(),
         ended: false,
+    })
+}
+
+// Reads until the room is full or the input ends, and answers how many bytes it put at the start of the room.
+pub fn read_full<R: Read>(input: &mut R, room: &mut [u8]) -> io::Result<usize>
+    ensures { IfOk result (λ n. IsPrefixLen n room.new) }
+{
+    let mut done: usize = 0;
+    for _ in 0usize..room.len() {
+        let n = input.read(&mut room[done..])?;
+        if n == 0 {
+            break;
+        }
+        done += n;
+    }
+    Ok(within(done, room))
+}
+
+// ---- arguments
+
+// Puts the argument at a place at the start of the room and answers its length, 0 where the room is too short; nothing past the last argument. The first one is the program's own name.
+pub fn argument(rt: &impl Env, i: usize, room: &mut [u8]) -> Option<usize>
+    ensures { IfSome result (λ n. IsPrefixLen n room.new) }
+{
+    match rt.arg(i, room) {
+        Ok(n) => Some(n),
+        Err(FillError::TooLong) => Some(within(0, room)),
+        Err(FillError::NotPresent) => None,
     }
 }
+
+// How many arguments there are, the program's own name among them.
+pub fn argument_count(rt: &impl Env) -> usize {
+    let mut nothing = [0u8; 0];
+    for i in 0usize..usize::MAX {
+        if argument(rt, i, &mut nothing).is_none() {
+            return i;
+        }
+    }
+    usize::MAX
+}
+
+// ---- lengths
 
 // As many of the bytes as there are, so that `&bytes[..n]` can be had.
 pub fn within(n: usize, bytes: &[u8]) -> usize
@@ -86,7 +130,7 @@ pub fn within(n: usize, bytes: &[u8]) -> usize
 // ---- words
 
 // At most 200 words; those after them are left out.
-#[derive(Drop)]
+#[derive(Clone, Copy)]
 pub struct Words {
     pub count: usize,
     pub values: [u64; 200],
@@ -202,7 +246,7 @@ pub fn known(w: Words, names: Words) -> bool {
 }
 
 // Numbers that follow each other, or the symbols of a string, as bytes. A number above 255 is 255.
-#[derive(Drop)]
+#[derive(Clone, Copy)]
 pub struct Run {
     pub bytes: [u8; 40],
     pub len: usize,
@@ -257,7 +301,7 @@ pub fn run_after(w: Words, value: u64) -> Run {
 // ---- the words of a text
 
 // How a text is being read: what it had so far, and the word that is being read: none, a number, a name, or within a string.
-#[derive(Drop)]
+#[derive(Clone, Copy)]
 struct Reading {
     words: Words,
     inside: u8,
@@ -386,10 +430,8 @@ pub fn words_of(text: &[u8]) -> Words {
         inside: BETWEEN,
         value: 0,
     };
-    let mut i: usize = 0;
-    while i < text.len() {
-        r = with_byte(r, text[i]);
-        i += 1;
+    for c in text {
+        r = with_byte(r, *c);
     }
     let e = ended(r);
     e.words
@@ -428,48 +470,48 @@ pub fn refused(w: Words, r: Refusal) -> Words {
     }
 }
 
-fn say_letter(letter: u8) {
-    if letter == 0 {
-        return;
+fn say_letter(rt: &impl Print, letter: u8) -> io::Result<()> {
+    if letter == 0 || 26 < letter {
+        return Ok(());
     }
-    if letter <= 26 {
-        say_byte(96 + letter);
-    }
+    say_byte(rt, 96 + letter)
 }
 
 // The first letter is in the highest 5 of 60 bits.
-fn say_name(value: u64) {
+fn say_name(rt: &impl Print, value: u64) -> io::Result<()> {
     let mut left = value;
     for _ in 0usize..12usize {
-        say_letter((left / 0x80_0000_0000_0000 % 32) as u8);
+        say_letter(rt, (left / 0x80_0000_0000_0000 % 32) as u8)?;
         left = left % 0x80_0000_0000_0000 * 32;
     }
+    Ok(())
 }
 
-fn say_word(value: u64) {
+fn say_word(rt: &impl Print, value: u64) -> io::Result<()> {
     if NAMED <= value {
-        say(b" ");
-        say_name(value - NAMED);
+        say(rt, b" ")?;
+        say_name(rt, value - NAMED)
     } else if QUOTED <= value {
-        say_byte((value % 256) as u8);
+        say_byte(rt, (value % 256) as u8)
     } else {
-        say(b" ");
-        say_number(value);
+        say(rt, b" ")?;
+        say_number(rt, value)
     }
 }
 
-pub fn say_words(w: Words) {
+pub fn say_words(rt: &impl Print, w: Words) -> io::Result<()> {
     for i in 0usize..200usize {
         if i < w.count {
-            say_word(word(w, i));
+            say_word(rt, word(w, i))?;
         }
     }
+    Ok(())
 }
 
 // ---- the frame of a trial program
 
 // How many lines were read, how many of them were cases, and how many of these came as expected.
-#[derive(Drop)]
+#[derive(Clone, Copy)]
 pub struct Tally {
     pub lines: u32,
     pub tried: u32,
@@ -486,7 +528,7 @@ pub fn no_tally() -> Tally {
 
 pub fn next_line(t: Tally) -> Tally {
     let mut r = t;
-    r.lines = std::num::wrapping_add_u32(t.lines, 1);
+    r.lines = t.lines.wrapping_add(1);
     r
 }
 
@@ -508,35 +550,41 @@ pub fn expects(asked: Words, got: Words) -> bool {
 }
 
 // A case more. Its line is printed where what came is not right; what came is for the program to print.
-pub fn counted(t: Tally, text: &[u8], right: bool) -> Tally {
+pub fn counted(rt: &impl Print, t: Tally, text: &[u8], right: bool) -> io::Result<Tally> {
     let mut r = t;
-    r.tried = std::num::wrapping_add_u32(t.tried, 1);
+    r.tried = t.tried.wrapping_add(1);
     if right {
-        r.right = std::num::wrapping_add_u32(t.right, 1);
-        return r;
+        r.right = t.right.wrapping_add(1);
+        return Ok(r);
     }
-    say(b"line ");
-    say_number(t.lines as u64);
-    say(b" differs: ");
-    say(text);
-    say(b"\n  came:");
-    r
+    say(rt, b"line ")?;
+    say_number(rt, t.lines as u64)?;
+    say(rt, b" differs: ")?;
+    say(rt, text)?;
+    say(rt, b"\n  came:")?;
+    Ok(r)
 }
 
 // A case whose answer is words: they are held against what the line expects.
-pub fn judged(t: Tally, text: &[u8], asked: Words, got: Words) -> Tally {
+pub fn judged(
+    rt: &impl Print,
+    t: Tally,
+    text: &[u8],
+    asked: Words,
+    got: Words,
+) -> io::Result<Tally> {
     let right = expects(asked, got);
-    let r = counted(t, text, right);
+    let r = counted(rt, t, text, right)?;
     if !right {
-        say_words(got);
-        say(b"\n");
+        say_words(rt, got)?;
+        say(rt, b"\n")?;
     }
-    r
+    Ok(r)
 }
 
-pub fn finish(t: Tally) {
-    say_number(t.right as u64);
-    say(b" of ");
-    say_number(t.tried as u64);
-    say(b" as expected\n");
+pub fn finish(rt: &impl Print, t: Tally) -> io::Result<()> {
+    say_number(rt, t.right as u64)?;
+    say(rt, b" of ")?;
+    say_number(rt, t.tried as u64)?;
+    say(rt, b" as expected\n")
 }

@@ -3,15 +3,19 @@
 // Of the listing a line has the hops, a comma between them: the heading and the ends of lines go without saying. In what the desk reads `<13>` is the byte 13, and `<48x99>` the byte 48, 99 times.
 // `read NAME` is what the desk reads from a file of this name: there its line may end with the file, or be longer than a desk's line.
 #![tactic(auto)]
-ghost use Rattle.io.specs.Counts.{IsPrefixLen};
+
+ghost use Rattle.std.specs.Prelude.{IfOk};
+ghost use Rattle.std.specs.Counts.{IsPrefixLen};
 
 use console::Tally;
-use libc::STDIN_FILENO;
+use std::io::Read;
+use std::rt::Files;
+use std::{fs, io, str};
 
 // ---- what the desk reads
 
 // How far a line is spelt out: how many bytes there are; and within `<..>` the byte and how often.
-#[derive(Drop)]
+#[derive(Clone, Copy)]
 struct Spelling {
     len: usize,
     inside: u8,
@@ -36,17 +40,15 @@ fn longer(n: u64, c: u8) -> u64 {
 
 // The byte this many times from a place on, as far as there is room; the place after them.
 fn put(room: &mut [u8], at: usize, byte: u8, times: u64) -> usize {
-    let mut i = at;
     let mut left = times;
-    while i < room.len() {
+    for i in at..room.len() {
         if left == 0 {
             return i;
         }
         room[i] = byte;
-        i += 1;
         left -= 1;
     }
-    i
+    if room.len() < at { at } else { room.len() }
 }
 
 fn plainly(len: usize) -> Spelling {
@@ -95,10 +97,8 @@ fn spelt(text: &[u8], room: &mut [u8]) -> usize
     ensures { IsPrefixLen result room.new }
 {
     let mut s = plainly(0);
-    let mut i: usize = 0;
-    while i < text.len() {
-        s = with_byte(s, text[i], room);
-        i += 1;
+    for c in text {
+        s = with_byte(s, *c, room);
     }
     console::within(s.len, room)
 }
@@ -112,30 +112,36 @@ fn answered(line: &[u8], room: &mut [u8]) -> usize
     console::within(n, room)
 }
 
-// As the program `desk` does it: of a line no more than 64 bytes are read.
-fn answered_to(fd: i32, room: &mut [u8]) -> usize
+// As the program `desk` does it: of a line no more than 64 bytes are read. A folder can be opened, but an attempt to read of it fails, and then there is no line.
+fn answered_to(input: &mut impl Read, room: &mut [u8]) -> usize
     ensures { IsPrefixLen result room.new }
 {
     let mut line = [0u8; 64];
-    let read = console::read_line(fd, &mut line);
-    let n = read.len;
+    let n = match console::read_line(input, &mut line) {
+        Ok(read) => read.len,
+        Err(_) => 0,
+    };
     answered(&line[..n], room)
 }
 
 // A file that isn't there answers nothing, which no line expects.
-fn answered_file(asked: &[u8], room: &mut [u8]) -> usize
+fn answered_file(rt: &impl Files, asked: &[u8], room: &mut [u8]) -> usize
     ensures { IsPrefixLen result room.new }
 {
     if asked.len() < 5 {
         return console::within(0, room);
     }
-    let fd = os::open_read(&asked[5..]);
-    if fd < 0 {
-        return console::within(0, room);
+    match opened(rt, &asked[5..]) {
+        Ok(mut file) => answered_to(&mut file, room),
+        Err(_) => console::within(0, room),
     }
-    let n = answered_to(fd, room);
-    libc::close(fd);
-    n
+}
+
+fn opened<R: Files>(rt: &R, name: &[u8]) -> io::Result<R::File> {
+    match str::from_utf8(name) {
+        Ok(path) => fs::open(rt, path),
+        Err(_) => Err(io::Error::from(io::ErrorKind::InvalidInput)),
+    }
 }
 
 fn answered_text(text: &[u8], line: &mut [u8], room: &mut [u8]) -> usize
@@ -153,11 +159,11 @@ fn names_a_file(text: &[u8]) -> bool {
     text[0] == b'r' && text[1] == b'e' && text[2] == b'a' && text[3] == b'd' && text[4] == b' '
 }
 
-fn answered_asked(asked: &[u8], line: &mut [u8], room: &mut [u8]) -> usize
+fn answered_asked(rt: &impl Files, asked: &[u8], line: &mut [u8], room: &mut [u8]) -> usize
     ensures { IsPrefixLen result room.new }
 {
     if names_a_file(asked) {
-        return answered_file(asked, room);
+        return answered_file(rt, asked, room);
     }
     answered_text(asked, line, room)
 }
@@ -180,11 +186,9 @@ fn put_listed(room: &mut [u8], at: usize, before: u8, c: u8) -> usize {
 fn listed(expected: &[u8], at: usize, room: &mut [u8]) -> usize {
     let mut n = at;
     let mut before: u8 = 0;
-    let mut i: usize = 0;
-    while i < expected.len() {
-        n = put_listed(room, n, before, expected[i]);
-        before = expected[i];
-        i += 1;
+    for c in expected {
+        n = put_listed(room, n, before, *c);
+        before = *c;
     }
     put(room, n, 10, 1)
 }
@@ -212,78 +216,87 @@ fn same(a: &[u8], b: &[u8]) -> bool {
     if a.len() != b.len() {
         return false;
     }
-    let mut i: usize = 0;
-    while i < a.len() {
+    for i in 0usize..a.len() {
         if a[i] != b[i] {
             return false;
         }
-        i += 1;
     }
     true
 }
 
 // ---- a case
 
-fn told(t: Tally, text: &[u8], came: &[u8], expected: &[u8]) -> Tally {
+fn told(rt: &impl Print, t: Tally, text: &[u8], came: &[u8], expected: &[u8]) -> io::Result<Tally> {
     let right = same(came, expected);
-    let r = console::counted(t, text, right);
+    let r = console::counted(rt, t, text, right)?;
     if !right {
-        console::say(b"\n");
-        console::say(came);
+        console::say(rt, b"\n")?;
+        console::say(rt, came)?;
     }
-    r
+    Ok(r)
 }
 
-fn trial(t: Tally, text: &[u8], asked: &[u8], expected: &[u8], line: &mut [u8]) -> Tally {
-    let mut wanted = io::buffer();
-    let mut came = io::buffer();
+fn trial(
+    rt: &(impl Files + Print),
+    t: Tally,
+    text: &[u8],
+    asked: &[u8],
+    expected: &[u8],
+    line: &mut [u8],
+) -> io::Result<Tally> {
+    let mut wanted = [0u8; 4096];
+    let mut came = [0u8; 4096];
     let m = expected_text(expected, &mut wanted);
-    let n = answered_asked(asked, line, &mut came);
-    told(t, text, &came[..n], &wanted[..m])
+    let n = answered_asked(rt, asked, line, &mut came);
+    told(rt, t, text, &came[..n], &wanted[..m])
 }
 
 // Where the sign `=` is; as long as the text where there is none.
 fn sign_in(text: &[u8]) -> usize
     ensures { IsPrefixLen result text.now }
 {
-    let mut i: usize = 0;
-    while i < text.len() {
+    for i in 0usize..text.len() {
         if text[i] == b'=' {
             return console::within(i, text);
         }
-        i += 1;
     }
-    console::within(i, text)
+    console::within(text.len(), text)
 }
 
 // The sign has a space on both sides. A line without it expects nothing, and differs.
-fn one_line(t: Tally, text: &[u8], line: &mut [u8]) -> Tally {
+fn one_line(
+    rt: &(impl Files + Print),
+    t: Tally,
+    text: &[u8],
+    line: &mut [u8],
+) -> io::Result<Tally> {
     if console::is_remark(text) {
-        return t;
+        return Ok(t);
     }
     let sign = sign_in(text);
     if sign == 0 {
-        return console::counted(t, text, false);
+        return console::counted(rt, t, text, false);
     }
     if text.len() - sign < 2 {
-        return console::counted(t, text, false);
+        return console::counted(rt, t, text, false);
     }
     let end = console::within(sign - 1, text);
     let from = console::within(sign + 2, text);
-    trial(t, text, &text[..end], &text[from..], line)
+    trial(rt, t, text, &text[..end], &text[from..], line)
 }
 
-fn main() {
+fn main(rt: HostRuntime) -> io::Result<()> {
+    let mut input = rt.reader();
     let mut text = [0u8; 1000];
     let mut line = [0u8; 100000];
     let mut t = console::no_tally();
     for _ in 0u32..10000u32 {
-        let read = console::read_line(STDIN_FILENO, &mut text);
+        let read = console::read_line(&mut input, &mut text)?;
         if read.ended {
             break;
         }
         let n = read.len;
-        t = one_line(console::next_line(t), &text[..n], &mut line);
+        t = one_line(&rt, console::next_line(t), &text[..n], &mut line)?;
     }
-    console::finish(t);
+    console::finish(&rt, t)
 }

@@ -1,5 +1,6 @@
-// The archive of a box's links, as include/dfc.h declares it: who hears whom, in 64 numbers that a C program lends.
+// What the archive of a box's links does, as include/dfc.h declares it: who hears whom, in 64 numbers that a C program lends. The crate `dfc_links_c` makes the archive.
 #![tactic(auto)]
+
 ghost use Rattle.std.specs.Prelude.{◌≡◌};
 ghost use Rattle.links.specs.Links.{termination_number, link};
 ghost use Rattle.links.specs.Sets.{formed};

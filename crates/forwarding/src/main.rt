@@ -1,10 +1,11 @@
 // Forwarding and screening: two feature boxes of two customers, which keep their data in one store, over the teaching plan. Each line of standard input is an operation of a box; it is printed again with its answer.
 // What is provisioned stands in data.rt: begin there to make a feature of your own. docs/DATA.md tells the example.
 #![tactic(auto)]
+
 mod data;
 
 use console::Words;
-use libc::STDIN_FILENO;
+use std::io;
 use store::Answer;
 use store_script::{Done, Stored};
 
@@ -56,43 +57,45 @@ fn step(d: Stored, w: Words) -> Done {
     }
 }
 
-fn say_answer(a: Answer) {
+fn say_answer(rt: &impl Print, a: Answer) -> io::Result<()> {
     match a {
-        Answer::Number(n) => console::say_number(n as u64),
-        Answer::Done => console::say(b"done"),
-        Answer::Refused(r) => console::say_refused(r),
+        Answer::Number(n) => console::say_number(rt, n as u64),
+        Answer::Done => console::say(rt, b"done"),
+        Answer::Refused(r) => console::say_refused(rt, r),
     }
 }
 
 // A remark and an empty line are printed as they are; a line with another word is answered `unknown`.
-fn with_line(d: Stored, text: &[u8]) -> Stored {
-    console::say(text);
+fn with_line(rt: &impl Print, d: Stored, text: &[u8]) -> io::Result<Stored> {
+    console::say(rt, text)?;
     if console::is_remark(text) {
-        console::say(b"\n");
-        return d;
+        console::say(rt, b"\n")?;
+        return Ok(d);
     }
-    console::say(b": ");
+    console::say(rt, b": ")?;
     let words = console::words_of(text);
     if !understood(words) {
-        console::say(b"unknown\n");
-        return d;
+        console::say(rt, b"unknown\n")?;
+        return Ok(d);
     }
     let done = step(d, words);
     let answer = done.answer;
-    say_answer(answer);
-    console::say(b"\n");
-    done.stored
+    say_answer(rt, answer)?;
+    console::say(rt, b"\n")?;
+    Ok(done.stored)
 }
 
-fn main() {
+fn main(rt: HostRuntime) -> io::Result<()> {
+    let mut input = rt.reader();
     let mut d = data::provisioned();
     let mut line = [0u8; 200];
     for _ in 0u32..100_000u32 {
-        let read = console::read_line(STDIN_FILENO, &mut line);
+        let read = console::read_line(&mut input, &mut line)?;
         if read.ended {
-            return;
+            return Ok(());
         }
         let n = read.len;
-        d = with_line(d, &line[..n]);
+        d = with_line(&rt, d, &line[..n])?;
     }
+    Ok(())
 }

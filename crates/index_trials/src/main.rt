@@ -1,12 +1,13 @@
 // Trials of the index of a plan. The table on standard input has a line for each case and says what is expected; its head says what a line may say. After each update every place of the index and the
 // plan are compared: with what they were, and with the index that is built afresh.
 #![tactic(auto)]
+
 mod plans;
 
 use console::{Tally, Words};
 use index::Indexed;
-use libc::STDIN_FILENO;
 use plan::{Plan, Region};
+use std::io;
 
 // The names that lines use, by their places.
 fn names() -> Words {
@@ -101,7 +102,7 @@ fn rows_apart(a: &[[u32; 257]; 64], b: &[[u32; 257]; 64]) -> u32 {
         let x = a[k];
         let y = b[k];
         if !same_row(x, y) {
-            n = std::num::wrapping_add_u32(n, 1);
+            n = n.wrapping_add(1);
         }
     }
     n
@@ -237,39 +238,42 @@ fn answer(w: Words, names: Words) -> Words {
 
 // ---- all lines
 
-fn with_line(t: Tally, names: Words, text: &[u8]) -> Tally {
+fn with_line(rt: &impl Print, t: Tally, names: Words, text: &[u8]) -> io::Result<Tally> {
     let t = console::next_line(t);
     if console::is_remark(text) {
-        return t;
+        return Ok(t);
     }
     let words = console::words_of(text);
     let asked = console::part(words, 0, console::place_of(words, console::EQUALS));
     if !console::known(asked, names) {
         return console::judged(
+            rt,
             t,
             text,
             words,
             console::phrase(console::no_words(), b"unknown"),
         );
     }
-    console::judged(t, text, words, answer(asked, names))
+    console::judged(rt, t, text, words, answer(asked, names))
 }
 
 // The bound is more than any table has: a loop must end.
-fn all_lines(names: Words) -> Tally {
+fn all_lines(rt: &(impl Input + Print), names: Words) -> io::Result<Tally> {
+    let mut input = rt.reader();
     let mut t = console::no_tally();
     let mut line = [0u8; 1000];
     for _ in 0u32..100_000u32 {
-        let read = console::read_line(STDIN_FILENO, &mut line);
+        let read = console::read_line(&mut input, &mut line)?;
         if read.ended {
-            return t;
+            return Ok(t);
         }
         let n = read.len;
-        t = with_line(t, names, &line[..n]);
+        t = with_line(rt, t, names, &line[..n])?;
     }
-    t
+    Ok(t)
 }
 
-fn main() {
-    console::finish(all_lines(names()));
+fn main(rt: HostRuntime) -> io::Result<()> {
+    let t = all_lines(&rt, names())?;
+    console::finish(&rt, t)
 }

@@ -25,7 +25,7 @@ use Rattle.routing.specs.declared.Outcome.TheVariants.{Routed}
 use Rattle.routing.specs.declared.Answer.{Answer}
 use Rattle.routing.specs.Interface.{is_feature, address_of}
 use Rattle.routing.specs.Steps.{callee_of, received_of, left_of}
-use Rattle.routing.specs.Routing.{roomy, settled_by, outcome_by, answer, answer_by, answered as routedAnswer}
+use Rattle.routing.specs.Routing.{roomy, settled_by, outcome_by, answer, answer_by, answered as routed_answer}
 use Rattle.journey.specs.declared.Trip.{Trip}
 use Rattle.journey.specs.Hops.{Hop, hop, passed_on, onward, hops}
 use Rattle.journey.specs.Listing.{kind_word, number_in, spaced, line, lines}
@@ -37,7 +37,7 @@ use Rattle.journey.proofs.Texts.{spaced-short, kind-short}
 
 given : (p : Plan) (s : Setup) → sound p ≡ true → well_formed p s ≡ true
     → answer p s Nothing 32 32 ≡ record { outcome = Routed (callee_of p s); setup = received_of p s; left = left_of p s }
-unfolding answer_by outcome_by settled_by roomy routedAnswer
+unfolding answer_by outcome_by settled_by roomy routed_answer
 given p s 𝓢 w = rw (𝓢, w)
 
 -- ---- one hop more

@@ -1,9 +1,10 @@
 // Trials of a box's links. The table on standard input has a line for each case and says what is expected; its head says what a line may say. Every place of what is lent is looked at.
 #![tactic(auto)]
+
 use console::{Tally, Words};
-use libc::STDIN_FILENO;
 use links::{Outcome, Summed, Termination};
 use refusal::Refusal;
+use std::io;
 
 // The names that the lines of the table use.
 const ADD: usize = 0;
@@ -267,31 +268,33 @@ fn answer(w: Words) -> Words {
     listed(l, room, sink)
 }
 
-fn with_line(t: Tally, text: &[u8]) -> Tally {
+fn with_line(rt: &impl Print, t: Tally, text: &[u8]) -> io::Result<Tally> {
     let t = console::next_line(t);
     if console::is_remark(text) {
-        return t;
+        return Ok(t);
     }
     let words = console::words_of(text);
     let asked = console::part(words, 0, console::place_of(words, console::EQUALS));
-    console::judged(t, text, words, answer(asked))
+    console::judged(rt, t, text, words, answer(asked))
 }
 
 // The bound is more than any table has: a loop must end.
-fn all_lines() -> Tally {
+fn all_lines(rt: &(impl Input + Print)) -> io::Result<Tally> {
+    let mut input = rt.reader();
     let mut t = console::no_tally();
     let mut line = [0u8; 1000];
     for _ in 0u32..100_000u32 {
-        let read = console::read_line(STDIN_FILENO, &mut line);
+        let read = console::read_line(&mut input, &mut line)?;
         if read.ended {
-            return t;
+            return Ok(t);
         }
         let n = read.len;
-        t = with_line(t, &line[..n]);
+        t = with_line(rt, t, &line[..n])?;
     }
-    t
+    Ok(t)
 }
 
-fn main() {
-    console::finish(all_lines());
+fn main(rt: HostRuntime) -> io::Result<()> {
+    let t = all_lines(&rt)?;
+    console::finish(&rt, t)
 }

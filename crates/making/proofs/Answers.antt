@@ -26,7 +26,7 @@ use Rattle.making.specs.declared.Maker.{Maker}
 use Rattle.making.specs.declared.Maker.TheVariants.{Feature, Line, Trunk, Resource, Error}
 use Rattle.making.specs.declared.Outcome.{Outcome}
 use Rattle.making.specs.declared.Outcome.TheVariants.{Made, Refused}
-use Rattle.making.specs.Making.{box_address, box_type, kind_of, somebody, makes_more, address_held, new_setup, continued_setup, turned, reversed_setup, is_list, not_own, new_outcome, continued_outcome, reversed_outcome, blankSetup, answered, new_answer, continued_answer, reversed_answer}
+use Rattle.making.specs.Making.{box_address, box_type, kind_of, somebody, makes_more, address_held, new_setup, continued_setup, turned, reversed_setup, is_list, not_own, new_outcome, continued_outcome, reversed_outcome, blank_setup, answered, new_answer, continued_answer, reversed_answer}
 use Rattle.making.proofs.Outcomes.{new-made, continued-made, reversed-made}
 use Rattle.making.proofs.WellFormed.{new-well-formed, continued-well-formed, reversed-well-formed}
 use Rattle.making.proofs.Manual as manual
@@ -37,7 +37,7 @@ pub answered-made : (o : Outcome) (s : Setup) → o ≡ Made → (answered o s).
 unfolding answered
 answered-made o s e = rw e
 
-pub answered-refused : (o : Outcome) (s : Setup) (r : Refusal) → o ≡ Refused r → answered o s ≡ record { outcome = Refused r; setup = blankSetup }
+pub answered-refused : (o : Outcome) (s : Setup) (r : Refusal) → o ≡ Refused r → answered o s ≡ record { outcome = Refused r; setup = blank_setup }
 unfolding answered
 answered-refused o s r e = rw e
 

@@ -25,7 +25,7 @@ use Rattle.setup.specs.Dialling.{legal_string}
 use Rattle.setup.specs.Setups.{routing, routing_address, well_formed}
 pub use Rattle.made.specs.Made.{or_kept, string_or, outer_for, source_in, target_in, turned}
 unfoldable pub use Rattle.made.specs.Made.{new_setup, further, continued_setup, reversed_setup}
-unfoldable pub use Rattle.setup.specs.Setups.{blank as blankSetup}
+unfoldable pub use Rattle.setup.specs.Setups.{blank as blank_setup}
 
 -- ---- the box that makes a setup (a resource or error box makes none, and an interface box has no type: the 0 beside them is never used)
 
@@ -154,7 +154,7 @@ reversed_outcome p m s sourceArg string targetArg = reversed_outcome_by (sound p
 
 unfoldable pub answered : Outcome → Setup → Answer
 answered Made s = record { outcome = Made; setup = s }
-answered (Refused r) s = record { outcome = Refused r; setup = blankSetup }
+answered (Refused r) s = record { outcome = Refused r; setup = blank_setup }
 
 -- what the three ways answer
 abbrev pub new_answer_by : Bool → Plan → Maker → List ℕ → ℕ → Answer

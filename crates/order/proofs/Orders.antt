@@ -1,5 +1,5 @@
 -- The rules of an order type by type: what the loops of `order_sound`, `reversible_ordered` and `reversible_opposed` gather is what the rules say. Assumes nothing.
-use mathlib.Core.Path.{◌≡◌, sym, ap, ap₂, ◌∙◌}
+use mathlib.Core.Path.{◌≡◌, ap, ◌∙◌}
 use mathlib.Core.Bool.{Bool, not, ◌&&◌}
 use mathlib.Core.List.{List}
 use Prim.Native.Nat.{ℕ}

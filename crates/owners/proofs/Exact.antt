@@ -3,7 +3,7 @@ use mathlib.Core.Path.{◌≡◌, sym, ◌∙◌}
 use mathlib.Core.List.{List}
 use Prim.Native.Nat.{ℕ}
 use contract.Lifetimes.{Lfts}
-use denote.Ref.{Bor}
+use denote.Ref.{Bor, MutBor}
 use denote.Triple.Clauses.{AtExit}
 use borrow.Fn.Kinds.{ended_of}
 use Rattle.plan.specs.declared.Plan.{Plan}
@@ -33,12 +33,12 @@ pub read-as-exact : (κs : Lfts 4) (p : Plan) (features owners : Bor (List ℕ))
     → read_as.Post κs (p, (features, (owners, (t, (a, (relations, (rows, (n, (k, tt))))))))) s end' → r ≡ s
 read-as-exact κs p features owners t a relations rows n k end end' r s u v = u ∙ sym v
 
-pub write-as-exact : (κs : Lfts 4) (p : Plan) (features owners : Bor (List ℕ)) (t a : ℕ) (relations rows : Bor (List ℕ)) (n k x : ℕ) (end end' : AtExit (ended_of 4 write-as-kinds.ps write-as-kinds.r) κs) (r s : Answer)
+pub write-as-exact : (κs : Lfts 4) (p : Plan) (features owners : Bor (List ℕ)) (t a : ℕ) (relations : Bor (List ℕ)) (rows : MutBor (List ℕ)) (n k x : ℕ) (end end' : AtExit (ended_of 4 write-as-kinds.ps write-as-kinds.r) κs) (r s : Answer)
     → write_as.Post κs (p, (features, (owners, (t, (a, (relations, (rows, (n, (k, (x, tt)))))))))) r end
     → write_as.Post κs (p, (features, (owners, (t, (a, (relations, (rows, (n, (k, (x, tt)))))))))) s end' → (r ≡ s) × (end.1.1.1.1.1.1.0.now ≡ end'.1.1.1.1.1.1.0.now)
 write-as-exact κs p features owners t a relations rows n k x end end' r s u v = (u.0 ∙ sym v.0, u.1 ∙ sym v.1)
 
-pub delete-as-exact : (κs : Lfts 4) (p : Plan) (features owners : Bor (List ℕ)) (t a : ℕ) (relations rows : Bor (List ℕ)) (n k : ℕ) (end end' : AtExit (ended_of 4 delete-as-kinds.ps delete-as-kinds.r) κs) (r s : Answer)
+pub delete-as-exact : (κs : Lfts 4) (p : Plan) (features owners : Bor (List ℕ)) (t a : ℕ) (relations : Bor (List ℕ)) (rows : MutBor (List ℕ)) (n k : ℕ) (end end' : AtExit (ended_of 4 delete-as-kinds.ps delete-as-kinds.r) κs) (r s : Answer)
     → delete-as.Post κs (p, (features, (owners, (t, (a, (relations, (rows, (n, (k, tt))))))))) r end
     → delete-as.Post κs (p, (features, (owners, (t, (a, (relations, (rows, (n, (k, tt))))))))) s end' → (r ≡ s) × (end.1.1.1.1.1.1.0.now ≡ end'.1.1.1.1.1.1.0.now)
 delete-as-exact κs p features owners t a relations rows n k end end' r s u v = (u.0 ∙ sym v.0, u.1 ∙ sym v.1)

@@ -1,6 +1,7 @@
 // Operational data by the plan: a box is named by its type and its address, and what it is to the store is worked out in each operation (manual 7; 02, ask 12). The features that types provide and the owners of addresses
 // are lent beside the plan; specs/Who.antt says what their words mean.
 #![tactic(auto)]
+
 ghost use Rattle.std.specs.Prelude.{◌≡◌};
 ghost use Rattle.store.specs.Operations.{effect, read, write, delete};
 ghost use Rattle.owners.specs.Who.{feature_of, owner_in, can_be_owned, who_by, who_of};

@@ -12,7 +12,7 @@ use Rattle.plan.specs.declared.Region.{Region}
 use Rattle.plan.specs.declared.Region.TheVariants.{Source, Target}
 use Rattle.plan.specs.declared.Subscriber.{Subscriber}
 use Rattle.plan.specs.declared.Plan.{Plan}
-use Rattle.order.specs.Rules.{rows_in_choice, empty_outside, irreflexive, transitive, reversible_ordered, reversible_opposed, order_sound}
+use Rattle.order.specs.Rules.{rows_in_choice, empty_outside, irreflexive, transitive, order_sound}
 use Rattle.plan.specs.Parts.{choice, order, at}
 use Rattle.plan.specs.Rules.{types_exist, reversible_in_both, bound_in_both, kind_known, address_given, count_fits, numbers_given, sets_in_choices, reversible_twice, numbers_differ, boxes_blank, lines_apart, one_kind, ascends, rest_blank}
 use Rattle.plan.specs.Sound.{types_sound, source_sound, target_sound, boxes_sound, own_sound, numbers_apart, subscriber_sound, in_both, each, each_two, sound, rules, all_of}
@@ -97,19 +97,19 @@ module _ (p : Plan) where
 
   -- ---- and back
 
-  inBoth-at : (rule : ℕ → List ℕ → Bool) → in_both p rule ≡ true → (r : Region) → rule (choice r p.types) (order r p) ≡ true
+  in_both-at : (rule : ℕ → List ℕ → Bool) → in_both p rule ≡ true → (r : Region) → rule (choice r p.types) (order r p) ≡ true
   unfolding in_both
-  inBoth-at rule e Source = and_left _ (rule (choice Target p.types) (order Target p)) e
-  inBoth-at rule e Target = and_right (rule (choice Source p.types) (order Source p)) _ e
+  in_both-at rule e Source = and_left _ (rule (choice Target p.types) (order Target p)) e
+  in_both-at rule e Target = and_right (rule (choice Source p.types) (order Source p)) _ e
 
   each_at : (rule : Subscriber → Bool) → each p rule ≡ true → (i : ℕ) → i < p.count → rule (at p.subscribers i) ≡ true
   unfolding each
   each_at rule e i h = every-at p.count (λ i. rule (at p.subscribers i)) e i h
 
-  eachTwo-at : (rule : Subscriber → Subscriber → Bool) → each_two p rule ≡ true → (i j : ℕ) → i < p.count → j < i
+  each_two-at : (rule : Subscriber → Subscriber → Bool) → each_two p rule ≡ true → (i j : ℕ) → i < p.count → j < i
       → rule (at p.subscribers j) (at p.subscribers i) ≡ true
   unfolding each_two
-  eachTwo-at rule e i j h l =
+  each_two-at rule e i j h l =
       every-at i (λ j. rule (at p.subscribers j) (at p.subscribers i))
       (every-at p.count (λ i. every i (λ j. rule (at p.subscribers j) (at p.subscribers i))) e i h) j l
 
@@ -138,8 +138,8 @@ module _ (p : Plan) where
         let e20 = others _ _ e19 in
         let l20 = first _ _ e20 in
         let order-rules : (r : Region) → order_sound (choice r p.types) (order r p) ≡ true = λ r.
-        and-make (and-make (and-make (inBoth-at rows_in_choice (first _ _ e2) r) (inBoth-at empty_outside (first _ _ e3) r))
-        (inBoth-at (λ chosen. irreflexive) (first _ _ e4) r)) (inBoth-at (λ chosen. transitive) (first _ _ e5) r) in
+        and-make (and-make (and-make (in_both-at rows_in_choice (first _ _ e2) r) (in_both-at empty_outside (first _ _ e3) r))
+        (in_both-at (λ chosen. irreflexive) (first _ _ e4) r)) (in_both-at (λ chosen. transitive) (first _ _ e5) r) in
         and-make (and-make (and-make (and-make (and-make limit
         (and-make (and-make (first _ _ e1) (first _ _ e6)) (first _ _ e7)))
         (and-make (order-rules Source) (first _ _ e8)))
@@ -153,7 +153,7 @@ module _ (p : Plan) where
         (each_at boxes_blank (and_left _ (rest_blank p.subscribers p.count) l20) i h)))
         (every-at p.count (ascends p.subscribers) (first _ _ e19) i h))
         (every_of i (λ j. lines_apart (at p.subscribers j) (at p.subscribers i) && one_kind (at p.subscribers j) (at p.subscribers i)) (λ j l.
-        and-make (eachTwo-at lines_apart (first _ _ e17) i j h l) (eachTwo-at one_kind (first _ _ e18) i j h l))))))
+        and-make (each_two-at lines_apart (first _ _ e17) i j h l) (each_two-at one_kind (first _ _ e18) i j h l))))))
         (and_right (each p boxes_blank) (rest_blank p.subscribers p.count) l20)
 
 -- a plan is sound exactly when it has at most 256 subscribers and keeps L1 to L20

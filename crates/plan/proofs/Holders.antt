@@ -1,17 +1,15 @@
 -- More of what a sound plan has: which types exist and are chosen, and whose box numbers are whose (manual 2.5, 3.3). Assumes nothing.
-use mathlib.Core.Path.{◌≡◌, sym, ap, ◌∙◌}
-use mathlib.Core.Bool.{Bool, true, false, not, ◌&&◌}
+use mathlib.Core.Path.{◌≡◌}
+use mathlib.Core.Bool.{true, ◌&&◌}
 use Prim.Native.Nat.{ℕ, ◌≤◌, ◌<◌}
-use native.Mathlib.Omega.{arith}
-use lib.Dec.{eqb, ltb, leb}
+use lib.Dec.{ltb, leb}
 use borrow.Author.Tests.{leb-true, eqb-true, lt-ltb}
-use Rattle.typeset.specs.Sets.{has, every, within, meet, implies}
+use Rattle.typeset.specs.Sets.{has, within, implies}
 use Rattle.typeset.proofs.Bools.{and_left, and_right, imp-at}
 use Rattle.typeset.proofs.Below.{every-at}
 use Rattle.typeset.proofs.Laws.{within-below}
 use Rattle.plan.specs.declared.Region.{Region}
 use Rattle.plan.specs.declared.Region.TheVariants.{Source, Target}
-use Rattle.plan.specs.declared.Subscriber.{Subscriber}
 use Rattle.plan.specs.declared.Plan.{Plan}
 use Rattle.plan.specs.Parts.{choice, box_number, at, box}
 use Rattle.plan.specs.Rules.{types_exist, reversible_in_both, bound_in_both, kind_known, count_fits, numbers_given, numbers_differ, boxes_blank, shares, lines_apart, one_kind}

@@ -2,24 +2,22 @@
 use mathlib.Core.Path.{◌≡◌, refl, sym, ap, ◌∙◌}
 use mathlib.Core.Logic.{◌⊎◌, inl, inr, ⊎_elim}
 use mathlib.Core.Bool.{Bool, true, false, not, ◌&&◌, ◌||◌}
-use Prim.Native.Nat.{ℕ, zero, suc, ◌-◌, ◌^◌, ◌≤◌, ◌<◌, min}
-use native.Mathlib.Nat.{not-suc-le-zero}
+use Prim.Native.Nat.{ℕ, ◌≤◌, ◌<◌}
 use native.Mathlib.Omega.{arith}
-use lib.Dec.{eqb, ltb, leb}
+use lib.Dec.{eqb, leb}
 use lib.ListN.{get_or}
-use borrow.Author.Tests.{ltb-true, leb-true, eqb-true, eqb-false, eq-eqb, ne_eqb, lt-ltb}
+use borrow.Author.Tests.{leb-true, eqb-true, eq-eqb, ne_eqb}
 use Rattle.typeset.specs.Sets.{has, every, within, implies, same}
-use Rattle.typeset.proofs.Bools.{yes_or_no, clash, fails, and_left, and_right, and-make, or_cases, not-true, not_of_false, imp-at}
+use Rattle.typeset.proofs.Bools.{clash, fails, and_left, and_right, and-make, or_cases, not-true, not_of_false, imp-at}
 use Rattle.typeset.proofs.Below.{every-at}
-use Rattle.typeset.proofs.Laws.{has-empty, within-below, split}
+use Rattle.typeset.proofs.Laws.{has-empty, within-below}
 use Rattle.plan.specs.declared.Region.{Region}
 use Rattle.plan.specs.declared.Region.TheVariants.{Source, Target}
 use Rattle.plan.specs.declared.Plan.{Plan}
-use Rattle.plan.specs.declared.Found.{Found}
 use Rattle.plan.specs.declared.Found.TheVariants.{At}
 use Rattle.order.specs.Rules.{precedes, rows_in_choice, empty_outside, irreflexive, transitive, two_of, reversible_ordered, reversible_opposed, order_sound}
-use Rattle.plan.specs.Parts.{choice, order, subscribed, legal, given, at}
-use Rattle.plan.specs.Rules.{types_exist, reversible_in_both, bound_in_both, address_given, sets_in_choices, reversible_twice, ascends, rest_blank}
+use Rattle.plan.specs.Parts.{choice, order, subscribed, given, at}
+use Rattle.plan.specs.Rules.{address_given, sets_in_choices, reversible_twice, rest_blank}
 use Rattle.plan.specs.Sound.{types_sound, source_sound, target_sound, subscriber_sound, sound}
 use Rattle.plan.specs.Find.{used, lookup}
 use Rattle.plan.proofs.Subscribers.{own_at, ascending, own-address, own-sets, own-reversible}

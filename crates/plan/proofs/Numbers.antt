@@ -4,15 +4,15 @@ use mathlib.Core.Path.{◌≡◌, refl, sym, ap, ◌∙◌}
 use mathlib.Core.Logic.{◌⊎◌, inl, inr, ⊎_elim}
 use mathlib.Core.Bool.{Bool, true, false, not, ◌&&◌, ◌||◌, cond}
 use mathlib.Core.List.{List, [], ◌∷◌}
-use Prim.Native.Nat.{ℕ, zero, suc, ◌+◌, ◌≤◌, ◌<◌, min, suc-le-suc, ◌/◌}
+use Prim.Native.Nat.{ℕ, zero, suc, ◌+◌, ◌≤◌, ◌<◌, ◌/◌}
 use native.Mathlib.Nat.{not-suc-le-zero, zero-lt-suc, lt-suc_self, lt_trans}
 use native.Mathlib.Numerals.{add-one}
 use native.Mathlib.Omega.{arith}
-use lib.Dec.{eqb, ltb, leb, leb-suc-suc}
+use lib.Dec.{eqb, ltb, leb-suc-suc}
 use lib.ListN.{length, get_or, take, drop, replicate, length-take, drop_of_length-le, length-replicate}
 use lib.Seq.{drop-cons, get_or-take}
-use borrow.Author.Tests.{eqb-true, eqb-false, eq-eqb, ne_eqb, ltb-true, lt-ltb}
-use Rattle.typeset.specs.Sets.{every, some, implies}
+use borrow.Author.Tests.{eqb-true, eq-eqb, ltb-true, lt-ltb}
+use Rattle.typeset.specs.Sets.{some, implies}
 use Rattle.typeset.proofs.Bools.{yes_or_no, clash, both_ways, fails, and_left, and_right, and-make, or_cases, or_left, or_right, not-true, not_of_false, imp-at, imp-of}
 use Rattle.typeset.proofs.Below.{every-at, every_of, some_of, some_at, some-ext}
 use Rattle.typeset.proofs.Laws.{split}

@@ -1,18 +1,17 @@
 -- Two bits for each number, sixteen numbers to a word (`Table.antt`): what an entry changes. Assumes nothing.
 use mathlib.Core.Path.{◌≡◌, refl, sym, ap, ap₂, ◌∙◌}
 use mathlib.Core.Logic.{◌⊎◌, inl, inr, ⊎_elim}
-use mathlib.Core.Bool.{Bool, true, false, ◌||◌, cond}
+use mathlib.Core.Bool.{Bool, true, false, ◌||◌}
 use mathlib.Core.List.{List}
 use Prim.Native.Nat.{ℕ, zero, suc, ◌+◌, ◌-◌, ◌*◌, ◌/◌, ◌%◌, ◌^◌, ◌≤◌, ◌<◌}
 use native.Mathlib.Nat.{mod-eq_of_lt, mul-le-mul}
 use native.Mathlib.Omega.{arith}
 use lib.Dec.{eqb}
 use lib.Pow.{pow_mono}
-use lib.ListN.{length, get_or, set, length-set, replicate, get_or-replicate, length-replicate}
+use lib.ListN.{length, get_or, length-set, replicate, get_or-replicate}
 use lib.Seq.{get_or-set_same, get_or-set_other}
 use borrow.Author.Tests.{eqb-true, eqb-false}
 use Rattle.typeset.specs.Sets.{has, digit, join}
-use Rattle.typeset.proofs.Bools.{yes_or_no}
 use Rattle.typeset.proofs.Laws.{has_first, has-later, has-past, has-shr, has-shl, has-shl-below, has-join-at, split}
 use Rattle.plan.specs.Table.{holder, entered}
 

@@ -61,7 +61,7 @@ const TEACHING: usize = 25;
 pub const UNKNOWN: usize = 29;
 
 // The plan so far; where the next number goes, for which region and which type's row; the room to write into; and whether every word was one that has a meaning here.
-#[derive(Drop)]
+#[derive(Clone, Copy)]
 pub struct Draft {
     pub plan: Plan,
     pub room: usize,
@@ -148,7 +148,7 @@ fn with_order(plan: Plan, region: usize, row: usize, n: u64) -> Plan {
 // The last one; nobody where the plan has none, or counts more than it has places.
 fn last(plan: Plan) -> Subscriber {
     let all = plan.subscribers;
-    let at = std::num::wrapping_sub_usize(plan.count as usize, 1);
+    let at = (plan.count as usize).wrapping_sub(1);
     if at < 256 {
         all[at]
     } else {
@@ -159,7 +159,7 @@ fn last(plan: Plan) -> Subscriber {
 fn with_last(plan: Plan, s: Subscriber) -> Plan {
     let mut all = plan.subscribers;
     let mut r = plan;
-    let at = std::num::wrapping_sub_usize(plan.count as usize, 1);
+    let at = (plan.count as usize).wrapping_sub(1);
     if at < 256 {
         all[at] = s;
         r.subscribers = all;
@@ -170,7 +170,7 @@ fn with_last(plan: Plan, s: Subscriber) -> Plan {
 // The 257th only counts.
 fn with_subscriber(plan: Plan, s: Subscriber) -> Plan {
     let mut r = plan;
-    r.count = std::num::wrapping_add_u16(plan.count, 1);
+    r.count = plan.count.wrapping_add(1);
     with_last(r, s)
 }
 
@@ -195,7 +195,7 @@ fn with_box(s: Subscriber, number: u16) -> Subscriber {
         boxes[n] = number;
         r.boxes = boxes;
     }
-    r.count = std::num::wrapping_add_u8(s.count, 1);
+    r.count = s.count.wrapping_add(1);
     r
 }
 

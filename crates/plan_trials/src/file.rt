@@ -4,7 +4,7 @@ use console::Words;
 use plan::{Plan, Subscriber, Types};
 
 // The longest file has 6,436 bytes.
-#[derive(Drop)]
+#[derive(Clone, Copy)]
 pub struct File {
     pub bytes: [u8; 6500],
     pub len: usize,
@@ -36,7 +36,7 @@ fn put_at(f: File, at: usize, b: u8) -> File {
 // ---- fields
 
 // A field's tag and what it holds: `ones` numbers of one byte, at most one; then `fours` numbers of four bytes and `twos` of two.
-#[derive(Drop)]
+#[derive(Clone, Copy)]
 struct Field {
     tag: u8,
     one: u8,
@@ -190,7 +190,7 @@ pub fn file_of(plan: Plan) -> File {
 // ---- changes
 
 // Where the next number goes, and the place of the next byte.
-#[derive(Drop)]
+#[derive(Clone, Copy)]
 struct Change {
     file: File,
     into: usize,
@@ -215,7 +215,7 @@ fn changed(c: Change, n: u64) -> Change {
         IS => {
             let more = put_at(file, at, (n % 256) as u8);
             r.file = more;
-            r.at = std::num::wrapping_add_usize(at, 1);
+            r.at = at.wrapping_add(1);
         }
         FIRST => {
             let less = first(file, n as usize);

@@ -1,15 +1,16 @@
 // Tries the reading, the writing and the test of plans on the cases of a table, a line a case; `stdin` is the table, and its head says how a line is written. A case that comes otherwise than its
 // line expects is printed, then how many came as expected.
 #![tactic(auto)]
+
 mod draft;
 mod file;
 
 use console::{Tally, Words, judged, no_words, phrase, with, word};
 use draft::{CHECK, EACH, READ, UNKNOWN, WRITE};
 use file::File;
-use libc::STDIN_FILENO;
 use plan::{Plan, Verdict};
 use planwrite::Written;
+use std::io;
 
 // ---- parts and comparing
 
@@ -20,17 +21,15 @@ fn prefix(bytes: &[u8], n: usize) -> &[u8] {
 
 // The first place at which two texts are not the same; their length, if they are.
 fn differ_at(a: &[u8], b: &[u8]) -> usize {
-    let mut i: usize = 0;
-    while i < a.len() {
+    for i in 0usize..a.len() {
         if b.len() <= i {
             return i;
         }
         if a[i] != b[i] {
             return i;
         }
-        i += 1;
     }
-    i
+    a.len()
 }
 
 // `right` if two texts are the same; else `other`, and the place at which they begin to differ.
@@ -128,16 +127,16 @@ fn cut_said(f: File, at: usize, n: usize) -> Words {
     }
 }
 
-fn cuts(t: Tally, text: &[u8], asked: Words, f: File) -> Tally {
+fn cuts(rt: &impl Print, t: Tally, text: &[u8], asked: Words, f: File) -> io::Result<Tally> {
     let mut r = t;
     let mut at: usize = 0;
     for n in 0usize..6500usize {
         if n < f.len {
             at = field_at(f, at, n);
-            r = judged(r, text, asked, cut_said(f, at, n));
+            r = judged(rt, r, text, asked, cut_said(f, at, n))?;
         }
     }
-    r
+    Ok(r)
 }
 
 // ---- the cases
@@ -164,35 +163,36 @@ fn answer(verb: usize, plan: Plan, f: File, room: usize) -> Words {
     }
 }
 
-fn tried(t: Tally, text: &[u8], asked: Words) -> Tally {
+fn tried(rt: &impl Print, t: Tally, text: &[u8], asked: Words) -> io::Result<Tally> {
     let d = draft::draft_of(asked);
     let plan = d.plan;
     let f = file::edited(file::file_of(plan), asked);
     let verb = verb(asked, d.clear);
     if verb == EACH {
-        cuts(t, text, asked, f)
+        cuts(rt, t, text, asked, f)
     } else {
-        judged(t, text, asked, answer(verb, plan, f, d.room))
+        judged(rt, t, text, asked, answer(verb, plan, f, d.room))
     }
 }
 
-fn with_line(t: Tally, text: &[u8]) -> Tally {
+fn with_line(rt: &impl Print, t: Tally, text: &[u8]) -> io::Result<Tally> {
     if console::is_remark(text) {
-        t
+        Ok(t)
     } else {
-        tried(t, text, console::words_of(text))
+        tried(rt, t, text, console::words_of(text))
     }
 }
 
-fn main() {
+fn main(rt: HostRuntime) -> io::Result<()> {
+    let mut input = rt.reader();
     let mut t = console::no_tally();
     for _ in 0u32..100_000u32 {
         let mut line = [0u8; 1000];
-        let l = console::read_line(STDIN_FILENO, &mut line);
+        let l = console::read_line(&mut input, &mut line)?;
         if l.ended {
             break;
         }
-        t = with_line(console::next_line(t), prefix(&line, l.len));
+        t = with_line(&rt, console::next_line(t), prefix(&line, l.len))?;
     }
-    console::finish(t);
+    console::finish(&rt, t)
 }

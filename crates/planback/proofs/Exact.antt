@@ -4,7 +4,7 @@ use mathlib.Core.Path.{◌≡◌, sym, ◌∙◌}
 use mathlib.Core.List.{List}
 use Prim.Native.Nat.{ℕ}
 use contract.Lifetimes.{Lfts}
-use denote.Ref.{Bor}
+use denote.Ref.{Bor, MutBor}
 use denote.Triple.Clauses.{AtExit}
 use borrow.Fn.Kinds.{ended_of}
 use Rattle.plan.specs.declared.Plan.{Plan}
@@ -20,7 +20,7 @@ use Rattle.planback.proofs.scan.Kinds as scan-kinds
 use Rattle.planback.proofs.rewrite.Reads as rewrite
 use Rattle.planback.proofs.rewrite.Kinds as rewrite-kinds
 
-pub there-and-back-exact : (κs : Lfts 1) (plan : Plan) (room : Bor (List ℕ)) (end end' : AtExit (ended_of 1 there-and-back-kinds.ps there-and-back-kinds.r) κs) (r s : Reading)
+pub there-and-back-exact : (κs : Lfts 1) (plan : Plan) (room : MutBor (List ℕ)) (end end' : AtExit (ended_of 1 there-and-back-kinds.ps there-and-back-kinds.r) κs) (r s : Reading)
     → there_and_back.Post κs (plan, (room, tt)) r end → there_and_back.Post κs (plan, (room, tt)) s end' → (r ≡ s) × (end.1.0.now ≡ end'.1.0.now)
 there-and-back-exact κs plan room end end' r s p q = (p.0 ∙ sym q.0, p.1 ∙ sym q.1)
 
@@ -32,6 +32,6 @@ pub scan-exact : (κs : Lfts 1) (file : Bor (List ℕ)) (first second : ℕ) (en
     → scan.Post κs (file, (first, (second, tt))) r end → scan.Post κs (file, (first, (second, tt))) s end' → r ≡ s
 scan-exact κs file first second end end' r s p q = p.0 ∙ sym q.0
 
-pub rewrite-exact : (κs : Lfts 2) (file room : Bor (List ℕ)) (end end' : AtExit (ended_of 2 rewrite-kinds.ps rewrite-kinds.r) κs) (r s : Written)
+pub rewrite-exact : (κs : Lfts 2) (file : Bor (List ℕ)) (room : MutBor (List ℕ)) (end end' : AtExit (ended_of 2 rewrite-kinds.ps rewrite-kinds.r) κs) (r s : Written)
     → rewrite.Post κs (file, (room, tt)) r end → rewrite.Post κs (file, (room, tt)) s end' → (r ≡ s) × (end.1.0.now ≡ end'.1.0.now)
 rewrite-exact κs file room end end' r s p q = (p.0 ∙ sym q.0, p.1 ∙ sym q.1)

@@ -1,6 +1,7 @@
 // The theorems of the plan file, brought to any plan that a program holds: its numbers fit their fields and its arrays have their lengths, and written and read again it is
 // the same plan; and to any file: what is accepted is sound, read or looked through, and written again it is the same bytes.
 #![tactic(auto)]
+
 ghost use Rattle.std.specs.Prelude.{◌≡◌, true, ◌^◌, ◌<◌, ◌≤◌, length, take};
 ghost use Rattle.plan.specs.declared.Verdict.TheVariants.{Sound};
 ghost use Rattle.plan.specs.Sound.{sound};
@@ -119,7 +120,9 @@ pub fn rewrite(file: &[u8], room: &mut [u8]) -> Written
             if room.len() < file.len() {
                 return Written::Refused(Refusal::RoomTooShort(0));
             }
-            Written::Bytes(bytes::copy(file, room))
+            let n = file.len();
+            room[..n].copy_from_slice(file);
+            Written::Bytes(n)
         }
     }
 }

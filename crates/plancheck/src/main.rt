@@ -3,16 +3,23 @@
 // In the gate it checks the teaching plan's file, the empty plan's, the teaching plan's with 2 no longer before 4 in the source order (damaged), and with 7,000 bytes more, which is more than any
 // file has (long).
 #![tactic(auto)]
+
 mod listing;
 
+ghost use Rattle.std.specs.Prelude.{IfOk};
+ghost use Rattle.std.specs.Counts.{IsPrefixLen};
+
 use console::say;
-use libc::STDIN_FILENO;
+use std::rt::{Env, Files};
+use std::{fs, io, str};
 
 // One byte more than the longest file has: whatever comes after it is bytes too many as well.
-fn check(fd: i32) {
-    let mut file = [0u8; 6437];
-    let n = io::read_full(fd, &mut file);
-    listing::report(&file[..n]);
+const ROOM: usize = 6437;
+
+fn check_input(rt: &(impl Print + Input)) -> io::Result<()> {
+    let mut file = [0u8; ROOM];
+    let n = console::read_full(&mut rt.reader(), &mut file)?;
+    listing::report(rt, &file[..n])
 }
 
 fn is_dash(name: &[u8]) -> bool {
@@ -23,43 +30,49 @@ fn is_dash(name: &[u8]) -> bool {
     }
 }
 
-// A folder can be opened, but an attempt to read no bytes of it fails.
-fn readable(fd: i32) -> bool {
-    let mut nothing = [0u8; 0];
-    0 <= fd && 0 <= libc::read(fd, &mut nothing)
-}
-
-fn check_file(name: &[u8]) {
-    let fd = os::open_read(name);
-    if readable(fd) {
-        check(fd);
-    } else {
-        say(name);
-        say(b": cannot be read\n");
+// The first bytes of a file, and how many. A folder can be opened, but an attempt to read of it fails.
+fn read_file(rt: &impl Files, name: &[u8], file: &mut [u8]) -> io::Result<usize>
+    ensures { IfOk result (λ n. IsPrefixLen n file.new) }
+{
+    match str::from_utf8(name) {
+        Ok(path) => console::read_full(&mut fs::open(rt, path)?, file),
+        Err(_) => Err(io::Error::from(io::ErrorKind::InvalidInput)),
     }
-    libc::close(fd);
 }
 
-fn check_argument(i: usize) {
-    let mut name = io::buffer();
-    let n = os::arg(i, &mut name);
-    say(b"== ");
-    say(&name[..n]);
-    say(b"\n");
-    if is_dash(&name[..n]) {
-        check(STDIN_FILENO);
+fn check_file(rt: &(impl Print + Files), name: &[u8]) -> io::Result<()> {
+    let mut file = [0u8; ROOM];
+    match read_file(rt, name, &mut file) {
+        Ok(n) => listing::report(rt, &file[..n]),
+        Err(_) => {
+            say(rt, name)?;
+            say(rt, b": cannot be read\n")
+        }
+    }
+}
+
+fn check_argument(rt: &(impl Print + Input + Files), name: &[u8]) -> io::Result<()> {
+    say(rt, b"== ")?;
+    say(rt, name)?;
+    say(rt, b"\n")?;
+    if is_dash(name) {
+        check_input(rt)
     } else {
-        check_file(&name[..n]);
+        check_file(rt, name)
     }
 }
 
 // The first argument is the program's own name.
-fn main() {
-    let count = os::arg_count();
+fn main(rt: HostRuntime) -> io::Result<()> {
+    let count = console::argument_count(&rt);
     if count < 2 {
-        check(STDIN_FILENO);
+        check_input(&rt)?;
     }
     for i in 1usize..count {
-        check_argument(i);
+        let mut name = [0u8; 4096];
+        if let Some(n) = console::argument(&rt, i, &mut name) {
+            check_argument(&rt, &name[..n])?;
+        }
     }
+    Ok(())
 }

@@ -50,12 +50,12 @@ pub record HeadRead (t : Types) (source target : List ℕ) : Type 0 where
 -- the stage, the plan so far, and the bytes so far
 pub data Reached : ℕ → Plan → List ℕ → Type 0 where
   at_start : Reached 0 blank_plan []
-  atTypes : Reached 1 blank_plan (field 1 version_body)
-  atSource : (t : Types) → Below (2 ^ 32) (sets_of t) → types_sound t ≡ true
+  at_types : Reached 1 blank_plan (field 1 version_body)
+  at_source : (t : Types) → Below (2 ^ 32) (sets_of t) → types_sound t ≡ true
       → Reached 2 (plan_of t (replicate 32 0) (replicate 32 0) (replicate 256 no_subscriber) 0) (field 1 version_body ++ field 2 (types_body t))
-  atTarget : (t : Types) (source : List ℕ) → Below (2 ^ 32) (sets_of t) → types_sound t ≡ true → Below (2 ^ 32) source → length source ≡ 32 → source_sound t source ≡ true
+  at_target : (t : Types) (source : List ℕ) → Below (2 ^ 32) (sets_of t) → types_sound t ≡ true → Below (2 ^ 32) source → length source ≡ 32 → source_sound t source ≡ true
       → Reached 3 (plan_of t source (replicate 32 0) (replicate 256 no_subscriber) 0) (field 1 version_body ++ field 2 (types_body t) ++ field 3 (order_body source))
-  atSubscribers : (t : Types) (source target : List ℕ) (xs : List Subscriber) → HeadRead t source target → length xs ≤ 256 → AllTyped xs
+  at_subscribers : (t : Types) (source target : List ℕ) (xs : List Subscriber) → HeadRead t source target → length xs ≤ 256 → AllTyped xs
       → every (length xs) (subscriber_sound t (filled xs)) ≡ true → Reached 4 (state t source target xs) (head_fields t source target ++ subscriber_fields xs)
 
 move : {stage : ℕ} {q : Plan} {pre pre' : List ℕ} → pre ≡ pre' → Reached stage q pre → Reached stage q pre'
@@ -142,7 +142,7 @@ module _ (at : ℕ) (left : List ℕ) (p : Below 256 left) where
       append_assoc (head_fields t source target) (subscriber_fields xs) (field 5 (body_of left))
       ∙ ap (λ (l : List ℕ). head_fields t source target ++ l) (ap (λ (l : List ℕ). subscriber_fields xs ++ field 5 l) (sym body) ∙ sym (fields-last xs s)) in
       rw (𝓝.tag, next, count, bytes)
-      (atSubscribers t source target (xs ++ (s ∷ [])) 𝓗 fits (typed-last xs s 𝓣 typed) all)
+      (at_subscribers t source target (xs ++ (s ∷ [])) 𝓗 fits (typed-last xs s 𝓣 typed) all)
 
   -- the field is passed: the plan so far has it, and so have the bytes so far
   step-on : {stage : ℕ} {q : Plan} {pre : List ℕ} → Reached stage q pre → header stage q.count at left ≡ Sound
@@ -154,22 +154,22 @@ module _ (at : ℕ) (left : List ℕ) (p : Below 256 left) where
       let is = version-next 0 left 𝓟 in
       let one : number (body_of left) ≡ 1 = eqb-true (number (body_of left)) 1 (rw is.0 at k) in
       let body : high 1 1 ≡ body_of left = ap (high 1) (sym one) ∙ high-number 1 (body_of left) (body-size left p 𝓟.body ∙ is.1) (body_below left p 𝓟.body) in
-      rw is.0 (move (ap (field 1) body) atTypes)
-  step-on atTypes h k other =
+      rw is.0 (move (ap (field 1) body) at_types)
+  step-on at_types h k other =
       let 𝓟 = header-passed 1 0 at left h in
       let is = types-next 0 left 𝓟 in
       let long = body-size left p 𝓟.body ∙ is.1 in
       let below = body_below left p 𝓟.body in
       rw is.0 (move (ap (λ (l : List ℕ). field 1 version_body ++ field 2 l) (types-back (body_of left) long below))
-      (atSource (types_in (body_of left)) (types-fit (body_of left) long below) (rw is.0 at k)))
-  step-on (atSource t fit ok) h k other =
+      (at_source (types_in (body_of left)) (types-fit (body_of left) long below) (rw is.0 at k)))
+  step-on (at_source t fit ok) h k other =
       let 𝓟 = header-passed 2 0 at left h in
       let is = source-next 0 left 𝓟 in
       let long = body-size left p 𝓟.body ∙ is.1 in
       let below = body_below left p 𝓟.body in
       rw is.0 (move (ap (λ (l : List ℕ). field 1 version_body ++ field 2 (types_body t) ++ field 3 l) (order-back (body_of left) long below))
-      (atTarget t (order_in (body_of left)) fit ok (order-fits (body_of left) long below) (order-rows (body_of left)) (rw is.0 at k)))
-  step-on (atTarget t source fit ok source-fit rows source_ok) h k other =
+      (at_target t (order_in (body_of left)) fit ok (order-fits (body_of left) long below) (order-rows (body_of left)) (rw is.0 at k)))
+  step-on (at_target t source fit ok source-fit rows source_ok) h k other =
       let 𝓟 = header-passed 3 0 at left h in
       let is = target-next 0 left 𝓟 in
       let long = body-size left p 𝓟.body ∙ is.1 in
@@ -187,8 +187,8 @@ module _ (at : ℕ) (left : List ℕ) (p : Below 256 left) where
       } in
       rw is.0 (move (append-nil (head_fields t source (order_in (body_of left)))
       ∙ ap (λ (l : List ℕ). field 1 version_body ++ field 2 (types_body t) ++ field 3 (order_body source) ++ field 4 l) (order-back (body_of left) long below))
-      (atSubscribers t source (order_in (body_of left)) [] 𝓗 (omega arith) none-typed (every-none (subscriber_sound t (filled [])))))
-  step-on (atSubscribers t source target xs 𝓗 few 𝓣 ok) h k other = subscriber-on t source target xs 𝓗 few 𝓣 ok h k other
+      (at_subscribers t source (order_in (body_of left)) [] 𝓗 (omega arith) none-typed (every-none (subscriber_sound t (filled [])))))
+  step-on (at_subscribers t source target xs 𝓗 few 𝓣 ok) h k other = subscriber-on t source target xs 𝓗 few 𝓣 ok h k other
 
 -- ---- what a refusal before the rules says of its place
 
@@ -258,10 +258,10 @@ module _ (bs left : List ℕ) (at : ℕ) (p : Below 256 left) where
       → header stage q.count at left ≡ Sound → tag_of left ≡ 127 → Outcome bs (ended q (at + 3) (after left))
   unfolding blank_plan
   end-outcome at_start b l h tag = let no : ⊥ = omega (arith, (version-next 0 left (header-passed 0 0 at left h)).0) in absurd no
-  end-outcome atTypes b l h tag = let no : ⊥ = omega (arith, (types-next 0 left (header-passed 1 0 at left h)).0) in absurd no
-  end-outcome (atSource t f o) b l h tag = let no : ⊥ = omega (arith, (source-next 0 left (header-passed 2 0 at left h)).0) in absurd no
-  end-outcome (atTarget t s f o g r e) b l h tag = let no : ⊥ = omega (arith, (target-next 0 left (header-passed 3 0 at left h)).0) in absurd no
-  end-outcome (atSubscribers t source target xs 𝓗 few 𝓣 ok) b l h tag =
+  end-outcome at_types b l h tag = let no : ⊥ = omega (arith, (types-next 0 left (header-passed 1 0 at left h)).0) in absurd no
+  end-outcome (at_source t f o) b l h tag = let no : ⊥ = omega (arith, (source-next 0 left (header-passed 2 0 at left h)).0) in absurd no
+  end-outcome (at_target t s f o g r e) b l h tag = let no : ⊥ = omega (arith, (target-next 0 left (header-passed 3 0 at left h)).0) in absurd no
+  end-outcome (at_subscribers t source target xs 𝓗 few 𝓣 ok) b l h tag =
       let 𝓟 = header-passed 4 (length xs) at left h in
       let split = end-left 𝓟.body tag (end-next (length xs) left 𝓟 tag) in
       let q : Plan = state t source target xs in

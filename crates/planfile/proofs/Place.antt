@@ -34,7 +34,7 @@ use Rattle.planfile.specs.Typed.{Typed}
 use Rattle.planfile.specs.Beginning.{fields_of, joined, Follows}
 use Rattle.planfile.proofs.States.{filled, state, filled-take, used-length}
 use Rattle.planfile.proofs.There.{read-version, read-types, read-source, read-used, read-file}
-use Rattle.planfile.proofs.Back.{HeadRead, Reached, at_start, atTypes, atSource, atTarget, atSubscribers, none-typed, state-sound, state-typed, verdict-cases, header-place, ended-none, ended_some, read_none, Outcome, whole, stopped, trailing, reads, never}
+use Rattle.planfile.proofs.Back.{HeadRead, Reached, at_start, at_types, at_source, at_target, at_subscribers, none-typed, state-sound, state-typed, verdict-cases, header-place, ended-none, ended_some, read_none, Outcome, whole, stopped, trailing, reads, never}
 use Rattle.planfile.proofs.Complete.{rows_long, rows_fit, source_for, target_for, source-for, target-for}
 
 -- ---- the fields of a file, joined
@@ -150,16 +150,16 @@ reached-follows : {stage : ℕ} {q : Plan} {pre : List ℕ} (bs left : List ℕ)
 unfolding joined fields_of
 reached-follows bs left at_start b =
     bare-follows no_types (source_for no_types) (target_for no_types (source_for no_types)) (head-for no_types no-sets no-types) bs [] left 0 b refl
-reached-follows bs left atTypes b =
+reached-follows bs left at_types b =
     bare-follows no_types (source_for no_types) (target_for no_types (source_for no_types)) (head-for no_types no-sets no-types) bs (field 1 version_body) left 1 b (append-nil (field 1 version_body))
-reached-follows bs left (atSource t fit ok) b =
+reached-follows bs left (at_source t fit ok) b =
     bare-follows t (source_for t) (target_for t (source_for t)) (head-for t fit ok) bs (field 1 version_body ++ field 2 (types_body t)) left 2 b
     (ap (λ (l : List ℕ). field 1 version_body ++ l) (append-nil (field 2 (types_body t))))
-reached-follows bs left (atTarget t source fit ok source-fit rows source_ok) b =
+reached-follows bs left (at_target t source fit ok source-fit rows source_ok) b =
     bare-follows t source (target_for t source) (head-with t source fit ok source-fit rows source_ok) bs
     (field 1 version_body ++ field 2 (types_body t) ++ field 3 (order_body source)) left 3 b
     (simp (append-nil, append_assoc))
-reached-follows bs left (atSubscribers t source target xs 𝓗 room 𝓣 ok) b =
+reached-follows bs left (at_subscribers t source target xs 𝓗 room 𝓣 ok) b =
     let used : take (length xs) (filled xs) ≡ xs = filled-take xs in
     let e : joined (take (suc (suc (suc (suc (length xs))))) (fields_of (state t source target xs))) ≡ head_fields t source target ++ subscriber_fields xs =
     joined-some (state t source target xs) (length xs) (rw used (omega arith)) ∙ rw (used, take_all (length xs) xs (omega arith)) in

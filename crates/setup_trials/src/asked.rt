@@ -88,10 +88,8 @@ fn place(r: Run, i: usize, junk: bool) -> u8 {
 }
 
 fn put_places(r: Run, junk: bool, places: &mut [u8]) {
-    let mut i: usize = 0;
-    while i < places.len() {
+    for i in 0usize..places.len() {
         places[i] = place(r, i, junk);
-        i += 1;
     }
 }
 

@@ -1,14 +1,15 @@
 // Trials of zones, of the addresses that strings embed, of the three ways to make a setup, and of routing. The table on standard input has a line for each case and says what is expected; its head
 // says what a line may say. Everything that came is told in words and compared, so that nothing goes unseen: also places past a length, the count of types left, every place of what is lent.
 #![tactic(auto)]
+
 mod asked;
 mod names;
 mod told;
 
 use console::{Tally, Words};
 use embedded::Dials;
-use libc::STDIN_FILENO;
 use names::Said;
+use std::io;
 
 // ---- zones and embedded addresses
 
@@ -101,10 +102,10 @@ fn answer(s: Said) -> Said {
     }
 }
 
-fn with_line(t: Tally, names: Words, text: &[u8]) -> Tally {
+fn with_line(rt: &impl Print, t: Tally, names: Words, text: &[u8]) -> io::Result<Tally> {
     let t = console::next_line(t);
     if console::is_remark(text) {
-        return t;
+        return Ok(t);
     }
     let words = console::words_of(text);
     let asked = console::part(words, 0, console::place_of(words, console::EQUALS));
@@ -113,24 +114,26 @@ fn with_line(t: Tally, names: Words, text: &[u8]) -> Tally {
         words: asked,
     });
     let got = said.words;
-    console::judged(t, text, words, got)
+    console::judged(rt, t, text, words, got)
 }
 
 // The bound is more than any table has: a loop must end.
-fn all_lines(names: Words) -> Tally {
+fn all_lines(rt: &(impl Input + Print), names: Words) -> io::Result<Tally> {
+    let mut input = rt.reader();
     let mut t = console::no_tally();
     let mut line = [0u8; 1000];
     for _ in 0u32..100_000u32 {
-        let read = console::read_line(STDIN_FILENO, &mut line);
+        let read = console::read_line(&mut input, &mut line)?;
         if read.ended {
-            return t;
+            return Ok(t);
         }
         let n = read.len;
-        t = with_line(t, names, &line[..n]);
+        t = with_line(rt, t, names, &line[..n])?;
     }
-    t
+    Ok(t)
 }
 
-fn main() {
-    console::finish(all_lines(names::all_names()));
+fn main(rt: HostRuntime) -> io::Result<()> {
+    let t = all_lines(&rt, names::all_names())?;
+    console::finish(&rt, t)
 }

@@ -89,7 +89,7 @@ pub fn all_names() -> Words {
 }
 
 // All names, and the words of a line, of a part of it, or of an answer.
-#[derive(Drop)]
+#[derive(Clone, Copy)]
 pub struct Said {
     pub names: Words,
     pub words: Words,

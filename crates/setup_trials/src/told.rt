@@ -20,12 +20,10 @@ fn word_for(c: u8, symbols: bool) -> u64 {
 // The first places, as numbers or as symbols.
 fn with_places(s: Said, places: &[u8], len: usize, symbols: bool) -> Said {
     let mut all = s;
-    let mut i: usize = 0;
-    while i < places.len() {
+    for i in 0usize..places.len() {
         if i < len {
             all = names::with_number(all, word_for(places[i], symbols));
         }
-        i += 1;
     }
     all
 }
@@ -33,12 +31,10 @@ fn with_places(s: Said, places: &[u8], len: usize, symbols: bool) -> Said {
 // How many places there are up to the last one that holds something else than what stands past a length.
 fn written(places: &[u8], lent: bool) -> usize {
     let mut end: usize = 0;
-    let mut i: usize = 0;
-    while i < places.len() {
+    for i in 0usize..places.len() {
         if places[i] != asked::past(lent, i) {
             end = i + 1;
         }
-        i += 1;
     }
     end
 }

@@ -1,5 +1,6 @@
 // A setup as 110 bytes, for programs in other languages: tagged fields as in the plan file.
 #![tactic(auto)]
+
 ghost use Rattle.std.specs.Prelude.{◌≡◌, true, [], ◌∷◌, ◌++◌, ◌+◌, ◌%◌, ◌≤◌, ◌<◌, length, take, drop};
 ghost use Rattle.std.proofs.lemmas.List.Edits.{sets};
 ghost use Rattle.planbytes.specs.Numbers.{number};

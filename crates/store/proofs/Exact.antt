@@ -3,7 +3,7 @@ use mathlib.Core.Path.{◌≡◌, sym, ◌∙◌}
 use mathlib.Core.List.{List}
 use Prim.Native.Nat.{ℕ}
 use contract.Lifetimes.{Lfts}
-use denote.Ref.{Bor}
+use denote.Ref.{Bor, MutBor}
 use denote.Triple.Clauses.{AtExit}
 use borrow.Fn.Kinds.{ended_of}
 use Rattle.store.specs.declared.Who.{Who}
@@ -26,12 +26,12 @@ pub read-exact : (κs : Lfts 2) (relations rows : Bor (List ℕ)) (w : Who) (n k
     → read.Post κs (relations, (rows, (w, (n, (k, tt))))) r end → read.Post κs (relations, (rows, (w, (n, (k, tt))))) s end' → r ≡ s
 read-exact κs relations rows w n k end end' r s p q = p ∙ sym q
 
-pub write-exact : (κs : Lfts 2) (relations rows : Bor (List ℕ)) (w : Who) (n k x : ℕ) (end end' : AtExit (ended_of 2 write-kinds.ps write-kinds.r) κs) (r s : Answer)
+pub write-exact : (κs : Lfts 2) (relations : Bor (List ℕ)) (rows : MutBor (List ℕ)) (w : Who) (n k x : ℕ) (end end' : AtExit (ended_of 2 write-kinds.ps write-kinds.r) κs) (r s : Answer)
     → write.Post κs (relations, (rows, (w, (n, (k, (x, tt)))))) r end → write.Post κs (relations, (rows, (w, (n, (k, (x, tt)))))) s end'
     → (r ≡ s) × (end.1.0.now ≡ end'.1.0.now)
 write-exact κs relations rows w n k x end end' r s p q = (p.0 ∙ sym q.0, p.1 ∙ sym q.1)
 
-pub delete-exact : (κs : Lfts 2) (relations rows : Bor (List ℕ)) (w : Who) (n k : ℕ) (end end' : AtExit (ended_of 2 delete-kinds.ps delete-kinds.r) κs) (r s : Answer)
+pub delete-exact : (κs : Lfts 2) (relations : Bor (List ℕ)) (rows : MutBor (List ℕ)) (w : Who) (n k : ℕ) (end end' : AtExit (ended_of 2 delete-kinds.ps delete-kinds.r) κs) (r s : Answer)
     → delete.Post κs (relations, (rows, (w, (n, (k, tt))))) r end → delete.Post κs (relations, (rows, (w, (n, (k, tt))))) s end'
     → (r ≡ s) × (end.1.0.now ≡ end'.1.0.now)
 delete-exact κs relations rows w n k end end' r s p q = (p.0 ∙ sym q.0, p.1 ∙ sym q.1)

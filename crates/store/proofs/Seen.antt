@@ -1,6 +1,6 @@
 -- An operation is answered by the numbers of its row and by whether there is room, and changes the numbers of its row alone. Assumes nothing.
 use mathlib.Core.Path.{◌≡◌, refl, ap, ◌∙◌}
-use mathlib.Core.Logic.{◌⊎◌, ⊎_elim}
+use mathlib.Core.Logic.{⊎_elim}
 use mathlib.Core.Bool.{true, false, ◌&&◌}
 use mathlib.Core.List.{List, ◌∷◌}
 use Prim.Native.Nat.{ℕ, ◌+◌, ◌<◌}
@@ -17,7 +17,7 @@ use Rattle.store.specs.Agree.{numbers_for, has_room}
 use Rattle.store.specs.Seen.{answer_seen, numbers_left}
 use Rattle.store.proofs.Words.{put-length, for-free}
 use Rattle.store.proofs.Effects.{read_found, read-absent, delete-found, delete-absent, write-found, write-added, write-full}
-use Rattle.store.proofs.Numbers.{place-has, place-min, numbers-found, numbers-absent, rest, rest-absent, put_first, put-gone, put_other}
+use Rattle.store.proofs.Numbers.{place-has, place-min, numbers-found, numbers-absent, rest-absent, put_first, put-gone, put_other}
 
 -- ---- rows that are asked for
 

@@ -1,6 +1,7 @@
 // Operational data (02, ask 12; manual 7): relations of data rows in lent memory of plain numbers, and what a box may do with a data row: read it, write it, delete it.
 // What each word means is said in specs/Words.antt.
 #![tactic(auto)]
+
 ghost use Rattle.std.specs.Prelude.{◌≡◌, false, ℕ, ◌+◌, ◌<◌, ◌≤◌};
 ghost use Rattle.store.specs.Words.{relation, data_row, data_row_at, is_for, with_row, first_for};
 ghost use Rattle.store.specs.Access.{whose, access_to, access_in};

@@ -1,9 +1,10 @@
 // What `forwarding` and `store_trials` share: a store with what is provisioned beside it, by value, and what a box does with it under the teaching plan, to which a script may add types.
 #![tactic(auto)]
+
 use plan::Plan;
 use store::Answer;
 
-#[derive(Drop)]
+#[derive(Clone, Copy)]
 pub struct Stored {
     // Types that exist besides those of the teaching plan.
     pub more_types: u32,
@@ -13,7 +14,7 @@ pub struct Stored {
     pub rows: [u32; 4096],
 }
 
-#[derive(Drop)]
+#[derive(Clone, Copy)]
 pub struct Done {
     pub stored: Stored,
     pub answer: Answer,
@@ -98,7 +99,7 @@ pub fn with_rows(s: Stored, from: u32, to: u32, row: [u32; 4]) -> Stored {
     for i in 0usize..1024usize {
         if from as usize <= i && i <= to as usize {
             t = with_row(t, i, row, key);
-            key = std::num::wrapping_add_u32(key, 1);
+            key = key.wrapping_add(1);
         }
     }
     t

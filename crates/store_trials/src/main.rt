@@ -1,8 +1,9 @@
 // Tries operational data on the steps of a script, a line a step; `stdin` is the script, and its head says how a line is written. A step that comes otherwise than its line expects is printed, then how many came as
 // expected. A refusal is told with the word `changed` where it changed a word.
 #![tactic(auto)]
+
 use console::{Tally, Words};
-use libc::STDIN_FILENO;
+use std::io;
 use store::Answer;
 use store_script::Stored;
 
@@ -89,7 +90,7 @@ fn with_number(w: Words, i: usize, n: u32) -> Words {
 
 // ---- what a step does
 
-#[derive(Drop)]
+#[derive(Clone, Copy)]
 struct Step {
     stored: Stored,
     told: Words,
@@ -213,47 +214,48 @@ fn done(s: Stored, w: Words) -> Step {
 
 // ---- all lines
 
-#[derive(Drop)]
+#[derive(Clone, Copy)]
 struct Run {
     stored: Stored,
     tally: Tally,
 }
 
-fn with_line(run: Run, text: &[u8]) -> Run {
+fn with_line(rt: &impl Print, run: Run, text: &[u8]) -> io::Result<Run> {
     let tally = run.tally;
     let before = run.stored;
     let t = console::next_line(tally);
     if console::is_remark(text) {
-        return Run {
+        return Ok(Run {
             stored: before,
             tally: t,
-        };
+        });
     }
     let words = console::words_of(text);
     let asked = console::part(words, 0, console::place_of(words, console::EQUALS));
     let done = done(before, asked);
     let after = done.stored;
     let came = done.told;
-    Run {
+    Ok(Run {
         stored: after,
-        tally: console::judged(t, text, words, came),
-    }
+        tally: console::judged(rt, t, text, words, came)?,
+    })
 }
 
 // The bound is more than any script has: a loop must end.
-fn main() {
+fn main(rt: HostRuntime) -> io::Result<()> {
+    let mut input = rt.reader();
     let mut run = Run {
         stored: store_script::fresh(),
         tally: console::no_tally(),
     };
     let mut line = [0u8; 400];
     for _ in 0u32..100_000u32 {
-        let read = console::read_line(STDIN_FILENO, &mut line);
+        let read = console::read_line(&mut input, &mut line)?;
         if read.ended {
-            console::finish(run.tally);
-            return;
+            return console::finish(&rt, run.tally);
         }
         let n = read.len;
-        run = with_line(run, &line[..n]);
+        run = with_line(&rt, run, &line[..n])?;
     }
+    Ok(())
 }

@@ -1,14 +1,13 @@
 -- The digits of a number. Assumes nothing.
 use mathlib.Core.Path.{◌≡◌, refl, sym, ap, ◌∙◌}
-use mathlib.Core.Bool.{Bool, true, false}
-use mathlib.Core.List.{List, [], ◌∷◌, ◌++◌}
+use mathlib.Core.Bool.{true, false}
+use mathlib.Core.List.{List, ◌++◌}
 use Prim.Native.Nat.{ℕ, zero, suc, ◌+◌, ◌-◌, ◌/◌, ◌%◌, ◌≤◌, ◌<◌}
 use native.Mathlib.Numerals.{add-one}
 use native.Mathlib.Omega.{arith}
 use lib.Dec.{ltb}
 use lib.ListN.{length, get_or, set, take, drop, replicate}
 use lib.Seq.{sets, sets-eq, take_at, length-sets}
-use Rattle.typeset.specs.Sets.{least}
 use Rattle.typeset.proofs.Below.{least-le, least-found, least-none}
 use Rattle.text.specs.Decimal.{tens, size, last_digits, decimal, digits}
 

@@ -24,7 +24,7 @@ use Rattle.setup.specs.Setups.{routing_address, list_of, end_part, in_range, lis
 use Rattle.embedded.specs.Embedded.{digit, all_digits, number_from, coded, skipped, after_code, writes_address, embedded}
 use Rattle.making.specs.declared.Maker.TheVariants.{Trunk as TrunkBox, Feature as FeatureBox}
 use Rattle.making.specs.declared.Outcome.TheVariants.{Made}
-use Rattle.making.specs.Making.{new_setup, new_outcome, new_outcome_by, further, continued_setup, answered as madeAnswered, new_answer, reversed_answer}
+use Rattle.making.specs.Making.{new_setup, new_outcome, new_outcome_by, further, continued_setup, answered as made_answered, new_answer, reversed_answer}
 use Rattle.making_examples.specs.Setups.{dialled300, setup_of, p5_sent, p6_received, p6_sent, p7_received, p7_sent, p7_received_at700, p7_sent_again, p8_stored, p8_sent}
 use Rattle.making_examples.proofs.Made.{p5-made, p6-made, p7-made, p7-made-again, p8-made}
 use Rattle.routing.specs.declared.Later.TheVariants.{Nothing}
@@ -88,15 +88,15 @@ unfolding p8_sent
 p8-makes = p8-made
 
 p10-makes-900 : new_answer teaching (TrunkBox 555) [] 900 ≡ made (new_setup 555 [] 900)
-unfolding has every legal given least used first_with lookup held subscriber unused types subscribers teaching symbol legal_string new_outcome_by madeAnswered
+unfolding has every legal given least used first_with lookup held subscriber unused types subscribers teaching symbol legal_string new_outcome_by made_answered
 p10-makes-900 = rw teaching-sound
 
 p10-makes-556 : new_answer teaching (TrunkBox 555) [] 556 ≡ made (new_setup 555 [] 556)
-unfolding has every legal given least used first_with lookup held subscriber unused types subscribers teaching symbol legal_string new_outcome_by madeAnswered
+unfolding has every legal given least used first_with lookup held subscriber unused types subscribers teaching symbol legal_string new_outcome_by made_answered
 p10-makes-556 = rw teaching-sound
 
 p10-makes-555 : new_answer teaching (TrunkBox 555) [] 555 ≡ made (new_setup 555 [] 555)
-unfolding has every legal given least used first_with lookup held subscriber unused types subscribers teaching symbol legal_string new_outcome_by madeAnswered
+unfolding has every legal given least used first_with lookup held subscriber unused types subscribers teaching symbol legal_string new_outcome_by made_answered
 p10-makes-555 = rw teaching-sound
 
 pub thirteen : Thirteen

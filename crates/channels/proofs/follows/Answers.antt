@@ -7,7 +7,6 @@ use native.Mathlib.Omega.{arith}
 use Rattle.channels.specs.Channels.{follows}
 use Rattle.channels.specs.Layout.{table, part, column}
 use Rattle.channels.proofs.Table.{in_table, no_step}
-use borrow.Author.Rules.{rules}
 use Rattle.channels.proofs.follows.Goals as goal
 
 in-its-line : (o b : Bool) (s k : ℕ) {p d : ℕ} → p ≡ part o b → d ≡ column k → s < 9 → k < 7 → get_or table (p + s) 0 / d % 16 ≡ follows o b s k

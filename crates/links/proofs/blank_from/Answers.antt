@@ -1,12 +1,9 @@
 -- What the check does not find by itself of `links::blank_from`. Assumes nothing.
 use mathlib.Core.Path.{◌≡◌, refl, sym, ◌∙◌}
-use mathlib.Core.Bool.{◌&&◌}
-use Prim.Native.Nat.{◌-◌, ◌≤◌, ◌<◌}
+use Prim.Native.Nat.{◌≤◌, ◌<◌}
 use native.Mathlib.Omega.{arith}
-use lib.Dec.{eqb}
-use lib.ListN.{length, drop}
+use lib.ListN.{length}
 use borrow.Author.Rules.{rules}
-use Rattle.links.specs.Sets.{blank}
 use Rattle.links.proofs.Loops.{blank-on, blank-end}
 use Rattle.links.proofs.blank_from.Goals as goal
 

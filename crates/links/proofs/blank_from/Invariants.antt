@@ -1,13 +1,10 @@
 -- What the check does not find by itself of `links::blank_from`. Assumes nothing.
-use mathlib.Core.Path.{◌≡◌, refl, sym, ◌∙◌}
+use mathlib.Core.Path.{◌≡◌}
 use mathlib.Core.Bool.{◌&&◌}
-use Prim.Native.Nat.{◌-◌, ◌≤◌, ◌<◌}
-use native.Mathlib.Omega.{arith}
+use Prim.Native.Nat.{◌-◌}
 use lib.Dec.{eqb}
-use lib.ListN.{length, drop}
-use borrow.Author.Rules.{rules}
+use lib.ListN.{drop}
 use Rattle.links.specs.Sets.{blank}
-use Rattle.links.proofs.Loops.{blank-on, blank-end}
 use Rattle.links.proofs.blank_from.Given as goal
 
 abbrev pub invariant-loop-i : goal.invariant-loop-i

@@ -1,9 +1,7 @@
 -- What the check does not find by itself of `links::clear`. Assumes nothing.
-use mathlib.Core.Path.{◌≡◌, refl, sym, ◌∙◌}
-use Prim.Native.Nat.{◌-◌, ◌≤◌}
+use mathlib.Core.Path.{refl, sym, ◌∙◌}
+use Prim.Native.Nat.{◌≤◌}
 use native.Mathlib.Omega.{arith}
-use lib.ListN.{replicate}
-use lib.Seq.{sets}
 use borrow.Author.Rules.{rules}
 use Rattle.links.proofs.Loops.{clear-on, clear-end}
 use Rattle.links.proofs.clear.Goals as goal

@@ -1,11 +1,8 @@
 -- What the check does not find by itself of `links::clear`. Assumes nothing.
-use mathlib.Core.Path.{◌≡◌, refl, sym, ◌∙◌}
-use Prim.Native.Nat.{◌-◌, ◌≤◌}
-use native.Mathlib.Omega.{arith}
+use mathlib.Core.Path.{◌≡◌}
+use Prim.Native.Nat.{◌-◌}
 use lib.ListN.{replicate}
 use lib.Seq.{sets}
-use borrow.Author.Rules.{rules}
-use Rattle.links.proofs.Loops.{clear-on, clear-end}
 use Rattle.links.proofs.clear.Given as goal
 
 abbrev pub invariant-loop-i : goal.invariant-loop-i

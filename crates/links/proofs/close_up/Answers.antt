@@ -1,11 +1,9 @@
 -- What the check does not find by itself of `links::close_up`. Assumes nothing.
 use mathlib.Core.Path.{◌≡◌, refl}
-use Prim.Native.Nat.{◌+◌, ◌-◌, ◌≤◌, ◌<◌}
+use Prim.Native.Nat.{◌+◌, ◌≤◌, ◌<◌}
 use native.Mathlib.Omega.{arith}
-use lib.ListN.{length, drop}
-use lib.Seq.{sets}
+use lib.ListN.{length}
 use borrow.Author.Rules.{rules}
-use Rattle.links.specs.Steps.{pulled}
 use Rattle.links.proofs.Loops.{pull-on, pull-last, pull-end}
 use Rattle.links.proofs.close_up.Goals as goal
 

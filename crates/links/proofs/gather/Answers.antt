@@ -1,9 +1,8 @@
 -- What the check does not find by itself of `links::gather`. Assumes nothing.
 use mathlib.Core.Path.{◌≡◌, refl, sym, ap, ◌∙◌}
-use mathlib.Core.Logic.{⊎_elim}
-use Prim.Native.Nat.{ℕ, ◌+◌, ◌-◌, ◌≤◌, ◌<◌}
+use Prim.Native.Nat.{ℕ, ◌+◌, ◌≤◌, ◌<◌}
 use native.Mathlib.Omega.{arith}
-use lib.ListN.{length, length-map, drop}
+use lib.ListN.{length, length-map}
 use lib.Seq.{sets}
 use borrow.Author.Rules.{rules}
 use mathlib.Core.List.{List, map}
@@ -13,6 +12,7 @@ use Rattle.links.specs.Links.{source_of}
 use Rattle.links.specs.Steps.{audible, heard_at}
 use Rattle.links.proofs.Loops.{keep-free}
 use Rattle.links.proofs.gather.Goals as goal
+use Rattle.links.proofs.gather.Goals.{then-audible, else-audible}
 
 pub loop-i-init : goal.loop-i-init
 loop-i-init c = (search rules, search rules, refl, omega arith)
@@ -58,14 +58,14 @@ loop-i-preserved c =
     let long : length c.args.set.now ≡ 64 = c.requires.0 in
     let below : c.loop-i.i < length c.args.set.now = omega (arith, long) in
     let i = c.loop-i.invariant in
-    ⊎_elim
-    (λ w.
-    let yes = sym c.audible.ensures ∙ w.0.taken in
-    rw (w.2, w.3, w.1.ensures) (search rules, omega (arith, i.1), sym (store-more _ _ _ 0 below yes source_of _ _) ∙ i.2, count-more _ _ _ 0 _ _ below yes i.3))
-    (λ w.
-    let no = keep-no (audible c.args.sink) c.args.set.now c.loop-i.i 0 below (sym c.audible.ensures ∙ w.0.left) in
-    rw (w.1, w.2) (search rules, omega (arith, i.1), ap (λ (l : List ℕ). sets c.loop-i.room c.loop-i.n (map source_of l)) (sym no) ∙ i.2, ap (λ (l : List ℕ). c.loop-i.n + length l) (sym no) ∙ i.3))
-    c.if-audible.branch
+    elim c.if-audible.branch [
+      | then-audible w ↦
+          let yes = sym c.audible.ensures ∙ w.if-audible.true in
+          rw (w.room-is, w.n-is, w.low_half.ensures) (search rules, omega (arith, i.1), sym (store-more _ _ _ 0 below yes source_of _ _) ∙ i.2, count-more _ _ _ 0 _ _ below yes i.3)
+      | else-audible w ↦
+          let no = keep-no (audible c.args.sink) c.args.set.now c.loop-i.i 0 below (sym c.audible.ensures ∙ w.if-audible.false) in
+          rw (w.room-is, w.n-is) (search rules, omega (arith, i.1), ap (λ (l : List ℕ). sets c.loop-i.room c.loop-i.n (map source_of l)) (sym no) ∙ i.2, ap (λ (l : List ℕ). c.loop-i.n + length l) (sym no) ∙ i.3)
+    ]
 
 pub returns : goal.returns
 unfolding heard_at

@@ -1,17 +1,12 @@
 -- What the check does not find by itself of `links::gather`. Assumes nothing.
-use mathlib.Core.Path.{◌≡◌, refl, sym, ap, ◌∙◌}
-use mathlib.Core.Logic.{⊎_elim}
-use Prim.Native.Nat.{ℕ, ◌+◌, ◌-◌, ◌≤◌, ◌<◌}
-use native.Mathlib.Omega.{arith}
-use lib.ListN.{length, length-map, drop}
+use mathlib.Core.Path.{◌≡◌}
+use Prim.Native.Nat.{◌+◌, ◌≤◌}
+use lib.ListN.{length, drop}
 use lib.Seq.{sets}
-use borrow.Author.Rules.{rules}
-use mathlib.Core.List.{List, map}
+use mathlib.Core.List.{map}
 use Rattle.lists.specs.Lists.{keep}
-use Rattle.lists.proofs.Places.{keep-no, keep-end, store-more, count-more}
 use Rattle.links.specs.Links.{source_of}
-use Rattle.links.specs.Steps.{audible, heard_at}
-use Rattle.links.proofs.Loops.{keep-free}
+use Rattle.links.specs.Steps.{audible}
 use Rattle.links.proofs.gather.Given as goal
 
 abbrev pub invariant-loop-i : goal.invariant-loop-i

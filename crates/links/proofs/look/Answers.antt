@@ -1,15 +1,14 @@
 -- What the check does not find by itself of `links::look`. Assumes nothing.
 use mathlib.Core.Path.{◌≡◌, refl, sym, ap, ◌∙◌}
 use mathlib.Core.Bool.{true}
-use Prim.Native.Nat.{◌+◌, ◌-◌, ◌≤◌, ◌<◌}
+use Prim.Native.Nat.{◌≤◌, ◌<◌}
 use native.Mathlib.Omega.{arith}
-use lib.ListN.{length, get_or, drop}
+use lib.ListN.{length, get_or}
 use borrow.Author.Rules.{rules}
-use Rattle.typeset.proofs.Bools.{clash, passed, failed}
-use Rattle.lists.specs.Lists.{keep}
+use Rattle.typeset.proofs.Bools.{clash}
 use Rattle.lists.proofs.Places.{count-more, keep-end}
 use borrow.Author.Tests.{ne_eqb}
-use Rattle.links.specs.Sets.{taken, links, formed_from, formed}
+use Rattle.links.specs.Sets.{taken, links, formed}
 use Rattle.links.proofs.Loops.{formed-free, formed-low, formed-one, formed-more, formed-end, keep-free}
 use Rattle.links.proofs.look.Goals as goal
 
@@ -54,7 +53,7 @@ unfolding formed
 returns-then-not-apart c =
     let long : length c.args.set.now ≡ 64 = c.requires in
     let below : c.loop-i.i < length c.args.set.now = omega (arith, long) in
-    let low-is = sym c.loop-i.invariant.1 ∙ formed-one _ _ _ below c.if-l-eq0.false c.if-l-before.false (failed c.apart.ensures c.if-not-apart.true-raw) in
+    let low-is = sym c.loop-i.invariant.1 ∙ formed-one _ _ _ below c.if-l-eq0.false c.if-l-before.false (sym c.apart.ensures ∙ c.if-not-apart.true) in
     (c.not_formed-then-not-apart.ensures ∙ sym low-is, λ f. absurd (clash f low-is))
 
 pub overflow_step-i : goal.overflow_step-i
@@ -68,7 +67,7 @@ loop-i-preserved c =
     let long : length c.args.set.now ≡ 64 = c.requires in
     let below : c.loop-i.i < length c.args.set.now = omega (arith, long) in
     let some : taken (get_or c.args.set.now c.loop-i.i 0) ≡ true = rw (ne_eqb (get_or c.args.set.now c.loop-i.i 0) 0 c.if-l-eq0.false) refl in
-    (search rules, sym (formed-more _ _ _ below c.if-l-eq0.false c.if-l-before.false (passed c.apart.ensures c.if-not-apart.false-raw)) ∙ c.loop-i.invariant.1, count-more taken c.args.set.now c.loop-i.i 0 _ _ below some c.loop-i.invariant.2)
+    (search rules, sym (formed-more _ _ _ below c.if-l-eq0.false c.if-l-before.false (sym c.apart.ensures ∙ c.if-not-apart.false)) ∙ c.loop-i.invariant.1, count-more taken c.args.set.now c.loop-i.i 0 _ _ below some c.loop-i.invariant.2)
 
 pub returns : goal.returns
 unfolding formed links

@@ -1,10 +1,9 @@
 -- What the check does not find by itself of `links::place_of`. Assumes nothing.
 use mathlib.Core.Path.{◌≡◌}
-use Prim.Native.Nat.{◌+◌, ◌-◌, ◌≤◌, ◌<◌}
+use Prim.Native.Nat.{◌≤◌, ◌<◌}
 use native.Mathlib.Omega.{arith}
-use lib.ListN.{length, drop}
+use lib.ListN.{length}
 use borrow.Author.Rules.{rules}
-use Rattle.links.specs.Steps.{place_of}
 use Rattle.links.proofs.Loops.{place-free, place_here, place-on, place_end}
 use Rattle.links.proofs.place_of.Goals as goal
 

@@ -1,11 +1,8 @@
 -- What the check does not find by itself of `links::place_of`. Assumes nothing.
 use mathlib.Core.Path.{◌≡◌}
-use Prim.Native.Nat.{◌+◌, ◌-◌, ◌≤◌, ◌<◌}
-use native.Mathlib.Omega.{arith}
-use lib.ListN.{length, drop}
-use borrow.Author.Rules.{rules}
+use Prim.Native.Nat.{◌+◌, ◌≤◌}
+use lib.ListN.{drop}
 use Rattle.links.specs.Steps.{place_of}
-use Rattle.links.proofs.Loops.{place-free, place_here, place-on, place_end}
 use Rattle.links.proofs.place_of.Given as goal
 
 abbrev pub invariant-loop-i : goal.invariant-loop-i

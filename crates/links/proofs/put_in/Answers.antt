@@ -1,11 +1,9 @@
 -- What the check does not find by itself of `links::put_in`. Assumes nothing.
 use mathlib.Core.Path.{◌≡◌, refl}
-use Prim.Native.Nat.{◌-◌, ◌≤◌, ◌<◌}
+use Prim.Native.Nat.{◌≤◌, ◌<◌}
 use native.Mathlib.Omega.{arith}
-use lib.ListN.{length, drop}
-use lib.Seq.{sets}
+use lib.ListN.{length}
 use borrow.Author.Rules.{rules}
-use Rattle.links.specs.Steps.{pushed}
 use Rattle.links.proofs.Loops.{push-on, push-last, push-end}
 use Rattle.links.proofs.put_in.Goals as goal
 

@@ -1,12 +1,9 @@
 -- What the check does not find by itself of `links::put_in`. Assumes nothing.
-use mathlib.Core.Path.{◌≡◌, refl}
-use Prim.Native.Nat.{◌-◌, ◌≤◌, ◌<◌}
-use native.Mathlib.Omega.{arith}
-use lib.ListN.{length, drop}
+use mathlib.Core.Path.{◌≡◌}
+use Prim.Native.Nat.{◌-◌}
+use lib.ListN.{drop}
 use lib.Seq.{sets}
-use borrow.Author.Rules.{rules}
 use Rattle.links.specs.Steps.{pushed}
-use Rattle.links.proofs.Loops.{push-on, push-last, push-end}
 use Rattle.links.proofs.put_in.Given as goal
 
 abbrev pub invariant-loop-i : goal.invariant-loop-i

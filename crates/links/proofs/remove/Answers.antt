@@ -1,4 +1,5 @@
 -- What the check does not find by itself of `links::remove`. Assumes nothing.
+use mathlib.Core.Path.{sym, ◌∙◌}
 use Rattle.typeset.proofs.Bools.{passed, failed}
 use borrow.Author.Rules.{rules}
 use Rattle.links.proofs.Laws.{below_64, remove-no-set, remove_absent, remove-past, remove-missed, remove-found, one-port-absent}
@@ -21,13 +22,13 @@ pub apart-requires : goal.apart-requires
 apart-requires c = search rules
 
 pub returns-then-not-apart : goal.returns-then-not-apart
-returns-then-not-apart c = rw (← c.link-x.ensures) (remove_absent _ _ c.places.ensures (passed c.look-seen.ensures.0 c.if-not-seen.false) (one-port-absent _ _ (passed c.look-seen.ensures.0 c.if-not-seen.false) (failed c.apart.ensures c.if-not-apart.true-raw)))
+returns-then-not-apart c = rw (← c.link-x.ensures) (remove_absent _ _ c.places.ensures (passed c.look-seen.ensures.0 c.if-not-seen.false) (one-port-absent _ _ (passed c.look-seen.ensures.0 c.if-not-seen.false) (sym c.apart.ensures ∙ c.if-not-apart.true)))
 
 pub place_of-at-requires : goal.place_of-at-requires
 place_of-at-requires c = search rules
 
 pub returns-then-at-eq64 : goal.returns-then-at-eq64
-returns-then-at-eq64 c = rw (← c.link-x.ensures) (remove-past _ _ c.places.ensures (passed c.look-seen.ensures.0 c.if-not-seen.false) (passed c.apart.ensures c.if-not-apart.false-raw) c.place_of-at.result c.place_of-at.ensures.0 c.if-at-eq64.true)
+returns-then-at-eq64 c = rw (← c.link-x.ensures) (remove-past _ _ c.places.ensures (passed c.look-seen.ensures.0 c.if-not-seen.false) (sym c.apart.ensures ∙ c.if-not-apart.false) c.place_of-at.result c.place_of-at.ensures.0 c.if-at-eq64.true)
 
 pub offset_bounds-set-at : goal.offset_bounds-set-at
 offset_bounds-set-at c = search rules
@@ -42,4 +43,4 @@ pub close_up-requires : goal.close_up-requires
 close_up-requires c = search rules
 
 pub returns : goal.returns
-returns c = rw (← c.link-x.ensures, c.close_up.ensures) (remove-found _ _ c.places.ensures (passed c.look-seen.ensures.0 c.if-not-seen.false) (passed c.apart.ensures c.if-not-apart.false-raw) c.place_of-at.result c.place_of-at.ensures.0 (below_64 c.place_of-at.ensures.1 c.if-at-eq64.false) c.if-set-at.false)
+returns c = rw (← c.link-x.ensures, c.close_up.ensures) (remove-found _ _ c.places.ensures (passed c.look-seen.ensures.0 c.if-not-seen.false) (sym c.apart.ensures ∙ c.if-not-apart.false) c.place_of-at.result c.place_of-at.ensures.0 (below_64 c.place_of-at.ensures.1 c.if-at-eq64.false) c.if-set-at.false)

@@ -2,7 +2,6 @@
 use Rattle.links.specs.Steps.{stays}
 use native.Mathlib.Omega.{arith}
 use borrow.Author.Tests.{ne_eqb}
-use borrow.Author.Rules.{rules}
 use Rattle.links.proofs.stays.Goals as goal
 
 pub returns : goal.returns

@@ -1,19 +1,10 @@
 -- What the check does not find by itself of `links::to_front`. Assumes nothing.
-use mathlib.Core.Path.{◌≡◌, refl, sym, ap, ◌∙◌}
-use mathlib.Core.Logic.{⊎_elim}
-use mathlib.Core.Bool.{true, false}
-use mathlib.Core.List.{List}
-use Prim.Native.Nat.{ℕ, ◌+◌, ◌-◌, ◌≤◌, ◌<◌}
-use native.Mathlib.Omega.{arith}
-use lib.ListN.{length, get_or, drop}
+use mathlib.Core.Path.{◌≡◌}
+use Prim.Native.Nat.{◌+◌, ◌≤◌}
+use lib.ListN.{length, drop}
 use lib.Seq.{sets}
-use borrow.Author.Rules.{rules}
 use Rattle.lists.specs.Lists.{keep}
-use Rattle.lists.proofs.Places.{keep-no, count-more}
-use Rattle.links.specs.Sets.{links}
-use Rattle.links.specs.Steps.{stays, remaining}
-use Rattle.links.proofs.Loops.{same_read, blank-keeps, front-on, front-skip}
-use Rattle.links.proofs.Memory.{positive, links-few, link_at, blank-after}
+use Rattle.links.specs.Steps.{stays}
 use Rattle.links.proofs.to_front.Given as goal
 
 abbrev pub invariant-loop-i : goal.invariant-loop-i

@@ -2,7 +2,6 @@
 use mathlib.Core.Path.{sym, ◌∙◌}
 use Rattle.typeset.proofs.Laws.{has-below}
 use Rattle.order.specs.Steps.{carries}
-use borrow.Author.Rules.{rules}
 use Rattle.order.proofs.carries.Goals as goal
 
 pub bounds-rows-b : goal.bounds-rows-b

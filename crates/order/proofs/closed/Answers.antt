@@ -1,10 +1,9 @@
 -- What the check does not find by itself of `order::closed`. Assumes nothing.
 use mathlib.Core.Path.{sym}
 use borrow.Author.Rules.{rules}
-use Rattle.typeset.specs.Sets.{size}
 use Rattle.typeset.proofs.Bools.{passed, failed}
-use Rattle.typeset.proofs.Taken.{Asks, asks_set, asks-fails, asks_rest, asks_none, taken-less}
-use Rattle.order.specs.Steps.{carries, closed}
+use Rattle.typeset.proofs.Taken.{asks_set, asks-fails, asks_rest, asks_none, taken-less}
+use Rattle.order.specs.Steps.{closed}
 use Rattle.order.proofs.Skips.{carries-none}
 use Rattle.order.proofs.closed.Goals as goal
 

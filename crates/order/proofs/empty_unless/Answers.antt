@@ -1,7 +1,6 @@
 -- What the check does not find by itself of `order::empty_unless`. Assumes nothing.
 use mathlib.Core.Path.{sym, ◌∙◌}
 use Rattle.order.specs.Steps.{empty_unless}
-use borrow.Author.Rules.{rules}
 use Rattle.order.proofs.empty_unless.Goals as goal
 
 pub returns-then-has : goal.returns-then-has

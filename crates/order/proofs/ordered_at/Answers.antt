@@ -1,10 +1,9 @@
 -- What the check does not find by itself of `order::ordered_at`. Assumes nothing.
 use mathlib.Core.Path.{sym}
 use borrow.Author.Rules.{rules}
-use Rattle.typeset.specs.Sets.{size}
 use Rattle.typeset.proofs.Bools.{passed, failed}
-use Rattle.typeset.proofs.Taken.{Asks, asks_set, asks-fails, asks_rest, asks_none, taken-below, taken-less}
-use Rattle.order.specs.Steps.{pair_ordered, ordered_at}
+use Rattle.typeset.proofs.Taken.{asks_set, asks-fails, asks_rest, asks_none, taken-below, taken-less}
+use Rattle.order.specs.Steps.{ordered_at}
 use Rattle.order.proofs.Skips.{pair-ordered-none}
 use Rattle.order.proofs.ordered_at.Goals as goal
 

@@ -1,10 +1,7 @@
 -- What the check does not find by itself of `order::pair_opposed`. Assumes nothing.
 use Rattle.typeset.proofs.Bools.{passed, failed}
-use mathlib.Core.Path.{◌∙◌, ap₂}
-use Rattle.typeset.specs.Sets.{same}
 use Rattle.order.specs.Rules.{precedes}
 use Rattle.order.specs.Steps.{pair_opposed}
-use borrow.Author.Rules.{rules}
 use Rattle.order.proofs.pair_opposed.Goals as goal
 
 pub returns-then-not-two_of : goal.returns-then-not-two_of

@@ -3,7 +3,6 @@ use Rattle.typeset.proofs.Bools.{passed, failed}
 use mathlib.Core.Path.{sym, ◌∙◌}
 use Rattle.order.specs.Rules.{precedes}
 use Rattle.order.specs.Steps.{pair_ordered}
-use borrow.Author.Rules.{rules}
 use Rattle.order.proofs.pair_ordered.Goals as goal
 
 pub returns-then-not-two_of : goal.returns-then-not-two_of

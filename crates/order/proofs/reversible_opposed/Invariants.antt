@@ -1,12 +1,7 @@
 -- What the check does not find by itself of `order::reversible_opposed`. Assumes nothing.
-use mathlib.Core.Path.{sym}
-use borrow.Author.Rules.{rules}
 use Rattle.typeset.specs.Sets.{size}
-use Rattle.typeset.proofs.Bools.{passed, failed}
-use Rattle.typeset.proofs.Taken.{Asks, asks_set, asks-fails, asks_rest, asks_none, taken-below, taken-less}
-use Rattle.order.specs.Rules.{reversible_opposed}
-use Rattle.order.specs.Steps.{pair_opposed, opposed_at}
-use Rattle.order.proofs.Skips.{opposed-none}
+use Rattle.typeset.proofs.Taken.{Asks}
+use Rattle.order.specs.Steps.{opposed_at}
 use Rattle.order.proofs.reversible_opposed.Given as goal
 
 abbrev pub invariant-loop-left : goal.invariant-loop-left

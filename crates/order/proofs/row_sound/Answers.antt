@@ -3,7 +3,6 @@ use Rattle.typeset.proofs.Bools.{passed, failed}
 use mathlib.Core.Path.{sym, ◌∙◌}
 use Rattle.order.specs.Steps.{row_sound}
 use Rattle.order.proofs.Skips.{row-empty}
-use borrow.Author.Rules.{rules}
 use Rattle.order.proofs.row_sound.Goals as goal
 
 pub returns-then-row-eq0 : goal.returns-then-row-eq0

@@ -1,7 +1,6 @@
 -- What the check does not find by itself of `order::two_of`. Assumes nothing.
 use Rattle.typeset.proofs.Bools.{passed, failed}
 use Rattle.order.specs.Rules.{two_of}
-use borrow.Author.Rules.{rules}
 use Rattle.order.proofs.two_of.Goals as goal
 
 pub returns-then-not-has : goal.returns-then-not-has

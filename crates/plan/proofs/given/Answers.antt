@@ -1,7 +1,6 @@
 -- What the check does not find by itself of `plan::given`. Assumes nothing.
 use Rattle.typeset.proofs.Bools.{passed, failed}
 use Rattle.plan.specs.Parts.{given}
-use borrow.Author.Rules.{rules}
 use Rattle.plan.proofs.given.Goals as goal
 
 pub returns-then-not-legal : goal.returns-then-not-legal

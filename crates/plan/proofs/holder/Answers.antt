@@ -1,7 +1,6 @@
 -- What the check does not find by itself of `plan::holder`. Assumes nothing.
 use mathlib.Core.Path.{refl, sym, ◌∙◌}
 use native.Mathlib.Omega.{arith}
-use borrow.Author.Rules.{rules}
 use Rattle.plan.specs.Find.{holder_at}
 use Rattle.plan.proofs.Lookup.{found_below}
 use Rattle.plan.proofs.holder.Goals as goal

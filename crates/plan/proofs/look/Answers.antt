@@ -1,6 +1,5 @@
 -- What the check does not find by itself of `plan::look`. Assumes nothing.
 use mathlib.Core.Path.{refl}
-use borrow.Author.Rules.{rules}
 use Rattle.plan.specs.Find.{seen}
 use Rattle.plan.proofs.look.Goals as goal
 

@@ -1,6 +1,5 @@
 -- What the check does not find by itself of `rules::address_given`. Assumes nothing.
 use Rattle.plan.specs.Rules.{address_given}
-use borrow.Author.Rules.{rules}
 use Rattle.rules.proofs.address_given.Goals as goal
 
 pub returns : goal.returns

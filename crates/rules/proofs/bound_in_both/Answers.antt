@@ -1,6 +1,5 @@
 -- What the check does not find by itself of `rules::bound_in_both`. Assumes nothing.
 use Rattle.plan.specs.Rules.{bound_in_both}
-use borrow.Author.Rules.{rules}
 use Rattle.rules.proofs.bound_in_both.Goals as goal
 
 pub returns : goal.returns

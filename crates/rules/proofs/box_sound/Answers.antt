@@ -4,7 +4,6 @@ use borrow.Author.Tests.{lt-ltb, le-ltb, le-leb, lt-leb}
 use mathlib.Core.Bool.{and-true}
 use Rattle.plan.specs.Steps.{box_sound}
 use Rattle.plan.proofs.Boxes.{differs-past}
-use borrow.Author.Rules.{rules}
 use Rattle.rules.proofs.box_sound.Goals as goal
 
 pub returns-then-not-box_number : goal.returns-then-not-box_number

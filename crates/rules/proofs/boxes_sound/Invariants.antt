@@ -1,14 +1,9 @@
 -- What the check does not find by itself of `rules::boxes_sound`. Assumes nothing.
-use mathlib.Core.Path.{◌≡◌, sym, ◌∙◌}
+use mathlib.Core.Path.{◌≡◌}
 use mathlib.Core.Bool.{true}
-use Prim.Native.Nat.{◌≤◌, ◌-◌}
-use native.Mathlib.Omega.{arith}
-use borrow.Author.Rules.{rules}
-use borrow.Author.Tests.{not-true, not-false}
+use Prim.Native.Nat.{◌≤◌}
 use Rattle.typeset.specs.Sets.{every}
-use Rattle.typeset.proofs.Below.{every-none, every_more, every-no}
 use Rattle.plan.specs.Steps.{box_sound}
-use Rattle.plan.proofs.Boxes.{boxes-places}
 use Rattle.rules.proofs.boxes_sound.Given as goal
 
 abbrev pub invariant-loop-x : goal.invariant-loop-x

@@ -1,13 +1,10 @@
 -- What the check does not find by itself of `rules::differs_at`. Assumes nothing.
 use mathlib.Core.Path.{◌≡◌, sym, ◌∙◌}
-use mathlib.Core.Bool.{true}
-use Prim.Native.Nat.{◌≤◌, ◌-◌}
 use native.Mathlib.Omega.{arith}
 use borrow.Author.Rules.{rules}
 use borrow.Author.Tests.{not-true, not-false}
-use Rattle.typeset.specs.Sets.{every}
 use Rattle.typeset.proofs.Below.{every-none, every_more, every-no}
-use Rattle.plan.specs.Steps.{differs_from, differs_at}
+use Rattle.plan.specs.Steps.{differs_at}
 use Rattle.rules.proofs.differs_at.Goals as goal
 
 pub loop-y-init : goal.loop-y-init

@@ -1,7 +1,6 @@
 -- What the check does not find by itself of `rules::differs_from`. Assumes nothing.
 use borrow.Author.Tests.{lt-ltb, le-ltb}
 use Rattle.plan.specs.Steps.{differs_from}
-use borrow.Author.Rules.{rules}
 use Rattle.rules.proofs.differs_from.Goals as goal
 
 pub returns-then-x-s : goal.returns-then-x-s

@@ -1,7 +1,6 @@
 -- What the check does not find by itself of `rules::listed_sound`. Assumes nothing.
 use Rattle.typeset.proofs.Bools.{passed, failed}
 use Rattle.plan.specs.Sound.{listed_sound}
-use borrow.Author.Rules.{rules}
 use Rattle.rules.proofs.listed_sound.Goals as goal
 
 pub returns-then-not-kind_known : goal.returns-then-not-kind_known

@@ -1,5 +1,4 @@
 -- What the check does not find by itself of `rules::own_sound`. Assumes nothing.
-use borrow.Author.Rules.{rules}
 use Rattle.plan.specs.Sound.{own_sound}
 use Rattle.rules.proofs.own_sound.Goals as goal
 

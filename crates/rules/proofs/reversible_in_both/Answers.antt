@@ -1,7 +1,6 @@
 -- What the check does not find by itself of `rules::reversible_in_both`. Assumes nothing.
 use Rattle.typeset.proofs.Bools.{passed, failed}
 use Rattle.plan.specs.Rules.{reversible_in_both}
-use borrow.Author.Rules.{rules}
 use Rattle.rules.proofs.reversible_in_both.Goals as goal
 
 pub returns-then-not-within : goal.returns-then-not-within

@@ -1,7 +1,6 @@
 -- What the check does not find by itself of `rules::reversible_twice`. Assumes nothing.
 use Rattle.typeset.proofs.Laws.{same_code}
 use Rattle.plan.specs.Rules.{reversible_twice}
-use borrow.Author.Rules.{rules}
 use Rattle.rules.proofs.reversible_twice.Goals as goal
 
 pub returns : goal.returns

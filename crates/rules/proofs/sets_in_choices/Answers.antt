@@ -1,7 +1,6 @@
 -- What the check does not find by itself of `rules::sets_in_choices`. Assumes nothing.
 use Rattle.typeset.proofs.Bools.{passed, failed}
 use Rattle.plan.specs.Rules.{sets_in_choices}
-use borrow.Author.Rules.{rules}
 use Rattle.rules.proofs.sets_in_choices.Goals as goal
 
 pub returns-then-not-within : goal.returns-then-not-within

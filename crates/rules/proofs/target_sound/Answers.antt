@@ -1,7 +1,6 @@
 -- What the check does not find by itself of `rules::target_sound`. Assumes nothing.
 use Rattle.typeset.proofs.Bools.{passed, failed}
 use Rattle.plan.specs.Sound.{target_sound}
-use borrow.Author.Rules.{rules}
 use Rattle.rules.proofs.target_sound.Goals as goal
 
 pub returns-then-not-order_sound : goal.returns-then-not-order_sound

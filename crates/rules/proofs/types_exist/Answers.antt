@@ -1,7 +1,6 @@
 -- What the check does not find by itself of `rules::types_exist`. Assumes nothing.
 use Rattle.typeset.proofs.Bools.{passed, failed}
 use Rattle.plan.specs.Rules.{types_exist}
-use borrow.Author.Rules.{rules}
 use Rattle.rules.proofs.types_exist.Goals as goal
 
 pub returns-then-not-within : goal.returns-then-not-within

@@ -1,7 +1,6 @@
 -- What the check does not find by itself of `rules::types_sound`. Assumes nothing.
 use Rattle.typeset.proofs.Bools.{passed, failed}
 use Rattle.plan.specs.Sound.{types_sound}
-use borrow.Author.Rules.{rules}
 use Rattle.rules.proofs.types_sound.Goals as goal
 
 pub returns-then-not-types_exist : goal.returns-then-not-types_exist

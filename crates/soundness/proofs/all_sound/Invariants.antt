@@ -1,15 +1,10 @@
 -- What the check does not find by itself of `soundness::all_sound`. Assumes nothing.
-use mathlib.Core.Path.{◌≡◌, sym, ◌∙◌}
+use mathlib.Core.Path.{◌≡◌}
 use mathlib.Core.Bool.{true}
-use Prim.Native.Nat.{◌≤◌, ◌-◌}
-use native.Mathlib.Omega.{arith}
-use borrow.Author.Rules.{rules}
-use Rattle.typeset.proofs.Bools.{passed, failed}
+use Prim.Native.Nat.{◌≤◌}
 use Rattle.typeset.specs.Sets.{every}
-use Rattle.typeset.proofs.Below.{every-none, every_more, every-no}
 use Rattle.plan.specs.Sound.{subscriber_sound}
-use Rattle.plan.proofs.Numbers.{Taken, taken_none}
-use Rattle.plan.proofs.Subscribers.{above-code, fits-code, table-next}
+use Rattle.plan.proofs.Numbers.{Taken}
 use Rattle.soundness.proofs.all_sound.Given as goal
 
 abbrev pub invariant-loop-i : goal.invariant-loop-i

@@ -1,7 +1,6 @@
 -- What the check does not find by itself of `soundness::blank`. Assumes nothing.
 use borrow.Author.Tests.{eq-eqb, ne_eqb}
 use Rattle.plan.specs.Rules.{blank}
-use borrow.Author.Rules.{rules}
 use Rattle.soundness.proofs.blank.Goals as goal
 
 pub returns-then-s-ne0 : goal.returns-then-s-ne0

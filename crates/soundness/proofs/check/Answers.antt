@@ -1,7 +1,6 @@
 -- What the check does not find by itself of `soundness::check`. Assumes nothing.
 use mathlib.Core.Path.{refl, sym, ◌∙◌}
 use Rattle.plan.specs.Sound.{verdict}
-use borrow.Author.Rules.{rules}
 use Rattle.soundness.proofs.check.Goals as goal
 
 pub returns-then-sound : goal.returns-then-sound

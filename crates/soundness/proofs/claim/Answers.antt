@@ -1,11 +1,9 @@
 -- What the check does not find by itself of `soundness::claim`. Assumes nothing.
 use mathlib.Core.Path.{◌≡◌, sym, ◌∙◌}
-use Prim.Native.Nat.{◌≤◌, ◌-◌}
 use native.Mathlib.Omega.{arith}
 use borrow.Author.Rules.{rules}
 use lib.ListN.{length}
-use Rattle.plan.proofs.Numbers.{rest, rest_all, rest-next, rest-skip, rest-done, claimed-none, claimed-one}
-use Rattle.plan.specs.Table.{claimed}
+use Rattle.plan.proofs.Numbers.{rest_all, rest-next, rest-skip, rest-done, claimed-none, claimed-one}
 use Rattle.soundness.proofs.claim.Goals as goal
 use Rattle.soundness.proofs.claim.Goals.{then-x-s, else-x-s}
 
@@ -25,8 +23,8 @@ loop-x-preserved c =
     let i = c.loop-x.invariant in
     let long : length c.args.s.boxes ≡ 4 = search rules in
     elim c.if-x-s.branch [
-      then-x-s w ↦ (search rules, rw (w.taken-is ∙ w.take_number-then-x-s.ensures) (sym (rest-next _ _ _ long (omega arith) w.if-x-s.true) ∙ i.1))
-    | else-x-s w ↦ (search rules, rw w.taken-is (sym (rest-skip _ _ _ w.if-x-s.false) ∙ i.1))
+      | then-x-s w ↦ (search rules, rw (w.taken-is ∙ w.take_number-then-x-s.ensures) (sym (rest-next _ _ _ long (omega arith) w.if-x-s.true) ∙ i.1))
+      | else-x-s w ↦ (search rules, rw w.taken-is (sym (rest-skip _ _ _ w.if-x-s.false) ∙ i.1))
     ]
 
 pub returns : goal.returns

@@ -1,11 +1,7 @@
 -- What the check does not find by itself of `soundness::claim`. Assumes nothing.
-use mathlib.Core.Path.{◌≡◌, sym, ◌∙◌}
-use mathlib.Core.Logic.{⊎_elim}
+use mathlib.Core.Path.{◌≡◌}
 use Prim.Native.Nat.{◌≤◌, ◌-◌}
-use native.Mathlib.Omega.{arith}
-use borrow.Author.Rules.{rules}
-use lib.ListN.{length}
-use Rattle.plan.proofs.Numbers.{rest, rest_all, rest-next, rest-skip, rest-done, claimed-none, claimed-one}
+use Rattle.plan.proofs.Numbers.{rest}
 use Rattle.plan.specs.Table.{claimed}
 use Rattle.soundness.proofs.claim.Given as goal
 

@@ -10,7 +10,6 @@ use Rattle.plan.specs.Parts.{box}
 use Rattle.plan.specs.Table.{may_take, fits}
 use Rattle.plan.proofs.Boxes.{numbers-first}
 use Rattle.rules.proofs.Tests.{both_of}
-use borrow.Author.Rules.{rules}
 use Rattle.soundness.proofs.fits.Goals as goal
 use Rattle.soundness.proofs.fits.Goals.{After-both-two, After-both-three}
 

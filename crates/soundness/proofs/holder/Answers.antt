@@ -1,6 +1,5 @@
 -- What the check does not find by itself of `soundness::holder`. Assumes nothing.
 use Rattle.plan.specs.Table.{holder}
-use borrow.Author.Rules.{rules}
 use Rattle.soundness.proofs.holder.Goals as goal
 
 pub returns : goal.returns

@@ -3,7 +3,6 @@ use mathlib.Core.Path.{◌∙◌, ap}
 use mathlib.Core.Bool.{Bool, ◌||◌}
 use lib.Dec.{eqb}
 use Rattle.plan.specs.Table.{may_take}
-use borrow.Author.Rules.{rules}
 use Rattle.soundness.proofs.may_take.Goals as goal
 
 pub returns : goal.returns

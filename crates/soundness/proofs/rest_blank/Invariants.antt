@@ -1,16 +1,11 @@
 -- What the check does not find by itself of `soundness::rest_blank`. Assumes nothing.
-use mathlib.Core.Path.{◌≡◌, sym}
+use mathlib.Core.Path.{◌≡◌}
 use mathlib.Core.Bool.{true}
-use Prim.Native.Nat.{◌≤◌, ◌-◌}
-use native.Mathlib.Omega.{arith}
-use borrow.Author.Rules.{rules}
-use borrow.Author.Tests.{le-leb, lt-leb}
+use Prim.Native.Nat.{◌≤◌}
 use lib.Dec.{leb}
-use Rattle.typeset.proofs.Bools.{passed, failed}
 use Rattle.typeset.specs.Sets.{every, implies}
-use Rattle.typeset.proofs.Below.{every_of, every_more, every-no}
 use Rattle.plan.specs.Parts.{at}
-use Rattle.plan.specs.Rules.{blank, rest_blank}
+use Rattle.plan.specs.Rules.{blank}
 use Rattle.soundness.proofs.rest_blank.Given as goal
 
 abbrev pub invariant-loop-i : goal.invariant-loop-i

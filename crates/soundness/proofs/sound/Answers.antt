@@ -2,7 +2,6 @@
 use Rattle.typeset.proofs.Bools.{passed, failed}
 use borrow.Author.Tests.{le-leb, lt-leb}
 use Rattle.plan.specs.Sound.{sound}
-use borrow.Author.Rules.{rules}
 use Rattle.soundness.proofs.sound.Goals as goal
 
 pub returns-then-count-gt256 : goal.returns-then-count-gt256

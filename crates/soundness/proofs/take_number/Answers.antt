@@ -1,6 +1,5 @@
 -- What the check does not find by itself of `soundness::take_number`. Assumes nothing.
 use Rattle.plan.specs.Table.{entered}
-use borrow.Author.Rules.{rules}
 use Rattle.soundness.proofs.take_number.Goals as goal
 
 pub returns : goal.returns

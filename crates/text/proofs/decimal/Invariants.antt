@@ -1,13 +1,9 @@
 -- What the check does not find by itself of `text::decimal`. Assumes nothing.
-use borrow.Author.Rules.{rules}
-use mathlib.Core.Path.{◌≡◌, refl, sym, ap, ◌∙◌}
-use Prim.Native.Nat.{ℕ, ◌+◌, ◌-◌, ◌≤◌, ◌<◌}
-use native.Mathlib.Omega.{arith}
-use mathlib.Core.List.{List}
-use lib.ListN.{length, replicate}
+use mathlib.Core.Path.{◌≡◌}
+use Prim.Native.Nat.{◌-◌, ◌≤◌}
+use lib.ListN.{replicate}
 use lib.Seq.{sets}
-use Rattle.text.specs.Decimal.{tens, size, last_digits, decimal, digits}
-use Rattle.text.proofs.Tens.{size_low, tens-some, digits_long, digit-next}
+use Rattle.text.specs.Decimal.{last_digits}
 use Rattle.text.proofs.decimal.Given as goal
 
 abbrev pub invariant-loop-i : goal.invariant-loop-i

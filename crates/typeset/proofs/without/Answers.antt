@@ -1,6 +1,5 @@
 -- What the check does not find by itself of `typeset::without`. Assumes nothing.
 use mathlib.Core.Path.{sym}
-use borrow.Author.Rules.{rules}
 use Rattle.typeset.proofs.Laws.{without-code, without-past}
 use Rattle.typeset.proofs.without.Goals as goal
 

@@ -1,0 +1,8 @@
+-- What the check does not find by itself of `owners::can_be_owned`. Assumes nothing.
+use mathlib.Core.Path.{refl}
+use Rattle.owners.specs.Who.{can_be_owned}
+use Rattle.owners.proofs.can_be_owned.Goals as goal
+
+pub returns : goal.returns
+unfolding can_be_owned
+returns c = refl

@@ -1,0 +1,5 @@
+-- What the check does not find by itself of `owners::delete_as`. Assumes nothing.
+use Rattle.owners.proofs.delete_as.Goals as goal
+
+pub returns : goal.returns
+returns c = rw (← c.who-known.ensures) c.delete.ensures

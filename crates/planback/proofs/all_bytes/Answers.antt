@@ -1,0 +1,18 @@
+-- What the check does not find by itself of `planback::all_bytes`. Assumes nothing.
+use mathlib.Core.Path.{◌≡◌}
+use Prim.Native.Nat.{◌+◌, ◌-◌, ◌<◌, ◌≤◌}
+use native.Mathlib.Omega.{arith}
+use borrow.Author.Rules.{rules}
+use lib.ListN.{length, take}
+use Rattle.planbytes.specs.Numbers.{Below}
+use Rattle.planback.proofs.Ranges.{below_none, below_more, below_all}
+use Rattle.planback.proofs.all_bytes.Goals as goal
+
+pub loop-i-init : goal.loop-i-init
+loop-i-init c = (search rules, search rules, below_none 256 c.args.file.now)
+
+pub loop-i-preserved : goal.loop-i-preserved
+loop-i-preserved c = (search rules, search rules, below_more 256 c.args.file.now c.loop-i.i (omega arith) c.loop-i.invariant.2 c.narrow.ensures)
+
+pub returns : goal.returns
+returns c = below_all 256 c.args.file.now c.loop-i.i (omega arith) c.loop-i.invariant.2

@@ -1,0 +1,18 @@
+-- What the check does not find by itself of `planback::scan`. Assumes nothing.
+use mathlib.Core.Path.{◌≡◌, sym, ap, ◌∙◌}
+use Rattle.plan.specs.declared.Verdict.TheVariants.{Sound}
+use Rattle.planread.specs.declared.Sight.{Sight}
+use Rattle.planread.specs.Reading.{read_of}
+use Rattle.planread.specs.Scanning.{scanned}
+use Rattle.planfile.proofs.Theorems.{read-sound}
+use borrow.Author.Rules.{rules}
+use Rattle.planback.proofs.Again.{as-accepted}
+use Rattle.planback.proofs.scan.Goals as goal
+
+pub returns : goal.returns
+unfolding scanned
+returns c = (
+  c.scan.ensures,
+  λ e. read-sound c.args.file.now c.all_bytes.ensures (read_of c.args.file.now).plan
+      (as-accepted (read_of c.args.file.now) (ap (λ (z : Sight). z.answer) (sym c.scan.ensures) ∙ e)),
+)

@@ -1,0 +1,14 @@
+-- What the check does not find by itself of `planback::subscriber`. Assumes nothing.
+use borrow.Author.Rules.{rules}
+use Rattle.planbytes.specs.Numbers.{Below}
+use Rattle.planback.proofs.subscriber.Goals as goal
+
+pub returns : goal.returns
+unfolding Below
+returns c =
+    record {
+      kind_fits = c.narrow.ensures;
+      fixed_fit = (c.wide.ensures, (c.wide-2.ensures, (c.wide-3.ensures, tt)));
+      boxes_fit = c.boxes.ensures.0;
+      four_boxes = c.boxes.ensures.1;
+    }

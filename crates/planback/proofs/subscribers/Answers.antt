@@ -1,0 +1,22 @@
+-- What the check does not find by itself of `planback::subscribers`. Assumes nothing.
+use mathlib.Core.Path.{◌≡◌}
+use Prim.Native.Nat.{◌-◌, ◌≤◌}
+use native.Mathlib.Omega.{arith}
+use borrow.Author.Rules.{rules}
+use lib.ListN.{length, take}
+use Rattle.planfile.specs.Typed.{AllTyped}
+use Rattle.planback.proofs.Ranges.{typed-none, typed-more, typed-all}
+use Rattle.planback.proofs.subscribers.Goals as goal
+
+pub loop-i-init : goal.loop-i-init
+loop-i-init c = (search rules, typed-none c.args.all)
+
+pub loop-i-preserved : goal.loop-i-preserved
+loop-i-preserved c =
+    let long : length c.args.all ≡ 256 = search rules in
+    (search rules, typed-more c.args.all c.loop-i.i (omega arith) c.loop-i.invariant.1 c.subscriber.ensures)
+
+pub returns : goal.returns
+returns c =
+    let long : length c.args.all ≡ 256 = search rules in
+    (typed-all c.args.all c.loop-i.i (omega arith) c.loop-i.invariant.1, long)

@@ -1,0 +1,7 @@
+-- What the check does not find by itself of `planback::unwritten`. Assumes nothing.
+use Rattle.planback.proofs.Again.{beside-refusal}
+use borrow.Author.Rules.{rules}
+use Rattle.planback.proofs.unwritten.Goals as goal
+
+pub returns : goal.returns
+returns c = beside-refusal c.args.r c.read_first-reading.ensures

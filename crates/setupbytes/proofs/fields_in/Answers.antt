@@ -1,0 +1,8 @@
+-- What the check does not find by itself of `setupbytes::fields_in`. Assumes nothing.
+use Rattle.setupbytes.specs.Codec.{fields_in}
+use borrow.Author.Rules.{rules}
+use Rattle.setupbytes.proofs.fields_in.Goals as goal
+
+pub returns : goal.returns
+unfolding fields_in
+returns c = rw (c.region_said.ensures, c.four.ensures, c.places.ensures, c.four-2.ensures, c.route_said.ensures, c.places-2.ensures, c.placing_said.ensures, c.outer_said.ensures, c.four-3.ensures)

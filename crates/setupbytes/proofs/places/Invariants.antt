@@ -1,0 +1,12 @@
+-- What the check does not find by itself of `setupbytes::places`. Assumes nothing.
+use mathlib.Core.Path.{◌≡◌, sym, ◌∙◌}
+use native.Mathlib.Omega.{arith}
+use Prim.Native.Nat.{◌-◌, ◌≤◌}
+use lib.ListN.{drop, take}
+use lib.Seq.{sets}
+use Rattle.setupbytes.proofs.Stores.{taken-all, taken_next, taken-done}
+use borrow.Author.Rules.{rules}
+use Rattle.setupbytes.proofs.places.Given as goal
+
+abbrev pub invariant-loop-i : goal.invariant-loop-i
+invariant-loop-i l = (l.i ≤ 32) × (sets l.all l.i (drop l.i (take 32 (drop l.at l.bytes))) ≡ take 32 (drop l.at l.bytes))
