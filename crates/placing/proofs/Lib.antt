@@ -1,4 +1,3 @@
-pub mod Plain
 pub mod Settles
 pub mod Operations
 pub mod Exact

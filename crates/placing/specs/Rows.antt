@@ -11,7 +11,7 @@ use Rattle.routing.specs.declared.Outcome.TheVariants.{Routed, Refused}
 use Rattle.routing.specs.declared.Answer.{Answer}
 use Rattle.routing.specs.Routing.{outcome_by, answer_by}
 use Rattle.call.specs.declared.Call.{Call}
-use Rattle.call.specs.Row.{Turn, Reply, placed_at, says, place, record_at, lowest_free, refuses, turn}
+use Rattle.call.specs.Row.{Turn, Reply, placed_at, says, place, lowest_free, refuses, turn}
 use Rattle.placing.specs.declared.Placed.{Placed}
 
 -- what a row of n whose lowest free record is r refuses by itself: 16, 11

@@ -1,6 +1,7 @@
 // Placing a call in a port or in a row, where they are lent (01 'Calls'): 23, 5, 18, 16, 11, in this order; on any refusal no list, no record and no byte is changed.
-// The functions that touch what is lent are thin and their proofs are walks by hand; every decision is made by a function of values.
+// The functions that touch what is lent are thin; every decision is made by a function of values.
 #![tactic(auto)]
+
 ghost use Rattle.std.specs.Prelude.{◌≡◌, [], ◌∷◌, length};
 ghost use Rattle.routing.specs.Routing.{source_list_after, target_list_after};
 ghost use Rattle.call.specs.Row.{record_at};

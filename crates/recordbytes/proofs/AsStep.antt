@@ -2,7 +2,7 @@
 use mathlib.Core.Path.{◌≡◌, refl, sym, ap, ap₂, subst, ◌∙◌}
 use mathlib.Core.Bool.{Bool, true, false, cond, ◌&&◌}
 use mathlib.Core.List.{List, [], ◌∷◌}
-use Prim.Native.Nat.{ℕ, suc, ◌+◌, ◌*◌, ◌≤◌, ◌<◌}
+use Prim.Native.Nat.{ℕ, ◌+◌, ◌≤◌, ◌<◌}
 use native.Mathlib.Omega.{arith}
 use lib.Dec.{eqb, ltb, leb}
 use lib.ListN.{length, get_or, set, length-set, get_or-eq_default}
@@ -31,7 +31,7 @@ use Rattle.call.specs.declared.Command.{Command}
 use Rattle.call.specs.declared.Command.TheVariants.{Accept, Busy, Unobtainable, Send, Teardown as Hang-up, Deliver}
 use Rattle.call.specs.Protocol.{actor, other, end_of, state_of, is_linked, is_ordinary, within, passed, speaks, queue_to, waiting, decide, push, pushes, pop, pops, sends, channels_by, moved, fit, judged, verdict, outcome}
 use Rattle.recordbytes.specs.Records.{state_place, queue_place, channel_place, queue_at, bytes_from, call_at}
-use Rattle.recordbytes.specs.Steps.{settled_at, touched_at, passed_at, channels_at, pushed_at, pushes_at, popped_at, pops_at, outcome_at, step_at, AsStep, Outside, in_front, behind, OnlyTheRecord}
+use Rattle.recordbytes.specs.Steps.{settled_at, touched_at, passed_at, channels_at, pushed_at, pushes_at, popped_at, pops_at, outcome_at, AsStep, Outside, in_front, behind, OnlyTheRecord}
 use Rattle.recordbytes.proofs.Places.{queue-moved, queue-same, bytes-length, bytes-at, bytes_same, pushed-length, pushed-count, pushed-before, pushed-past, pushed-queue, popped-length, popped-before, popped-past, popped-queue}
 use Rattle.recordbytes.proofs.Steps.{count-from, channels-from, channel-from, passed_length}
 

@@ -7,7 +7,7 @@ use native.Mathlib.Omega.{arith}
 use lib.ListN.{length, get_or, set, take, drop, length-set, length-drop, length-append, get_or-append}
 use lib.Seq.{sets, drop-cons, drop-set-lt, length-take-le, length-sets, get_or-set_same, get_or-set_other, get_or-take, get_or-drop, get_or-append-add, lt-length-sets}
 use Rattle.planwrite.proofs.Puts.{puts_then}
-use Rattle.signalbytes.specs.Numbers.{signal_said, signal_number, signal_tunnel, signal_code}
+use Rattle.signalbytes.specs.Numbers.{signal_number}
 use Rattle.signalbytes.proofs.Back.{signal-back}
 use Rattle.ends.specs.declared.Signal.{Signal}
 use Rattle.call.specs.declared.Slot.{Slot}

@@ -1,6 +1,7 @@
 // A command on a call record in lent bytes, for programs in other languages (01 'Calls'). It is decided by few bytes of the record: the two counts, the acting end's state, the head of the queue towards it, one channel. What is accepted
 // changes the record where it stands, and only the bytes that it must; a refusal changes none. Commands, sides, states and signals are the numbers that C and the bytes have, and a part answers one word: enums and structs would go through memory at each call.
 #![tactic(auto)]
+
 ghost use Rattle.std.specs.Prelude.{◌≡◌, not, cond, [], ◌∷◌, ◌+◌, ◌*◌, ◌≤◌, ◌<◌, eqb, length, get_or, set, take, drop};
 ghost use Rattle.std.proofs.lemmas.List.Edits.{sets};
 ghost use Rattle.ends.specs.declared.State.TheVariants.{Unlinking};

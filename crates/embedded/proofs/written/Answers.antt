@@ -4,7 +4,6 @@ use mathlib.Core.Path.{sym, ap, ◌∙◌}
 use borrow.Author.Tests.{eq-eqb, ne_eqb, le-leb, lt-leb}
 use Rattle.embedded.specs.declared.Dials.TheVariants.{Address}
 use Rattle.embedded.specs.Embedded.{writes_address}
-use borrow.Author.Rules.{rules}
 use Rattle.embedded.proofs.written.Goals as goal
 
 pub returns-then-s-lt1 : goal.returns-then-s-lt1

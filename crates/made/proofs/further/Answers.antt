@@ -2,7 +2,6 @@
 use mathlib.Core.Path.{sym, ◌∙◌}
 use borrow.Author.Tests.{eq-eqb, ne_eqb}
 use Rattle.made.specs.Made.{further}
-use borrow.Author.Rules.{rules}
 use Rattle.made.proofs.further.Goals as goal
 
 pub returns-then-given-eq0 : goal.returns-then-given-eq0

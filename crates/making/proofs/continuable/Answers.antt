@@ -2,7 +2,6 @@
 use mathlib.Core.Path.{◌∙◌}
 use Rattle.typeset.proofs.Bools.{passed, failed}
 use Rattle.making.proofs.Shown.{well-formed-by}
-use borrow.Author.Rules.{rules}
 use Rattle.making.proofs.continuable.Goals as goal
 
 pub returns-then-not-well_formed_in : goal.returns-then-not-well_formed_in

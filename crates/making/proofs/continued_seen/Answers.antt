@@ -5,7 +5,6 @@ use Rattle.making.proofs.Outcomes.{answered-alike, legal-all, continued-made-by}
 use mathlib.Core.List.{List}
 use Prim.Native.Nat.{ℕ}
 use lib.ListN.{take}
-use borrow.Author.Rules.{rules}
 use Rattle.making.proofs.continued_seen.Goals as goal
 
 pub returns : goal.returns

@@ -2,7 +2,6 @@
 use mathlib.Core.Path.{◌≡◌}
 use Rattle.making.specs.Making.{continued_answer}
 use Rattle.making.proofs.Numbered.{continued-said}
-use borrow.Author.Rules.{rules}
 use Rattle.making.proofs.continued_setup.Goals as goal
 
 pub returns : goal.returns

@@ -1,5 +1,4 @@
 -- What the check does not find by itself of `making::new_outcome`. Assumes nothing.
-use borrow.Author.Rules.{rules}
 use Rattle.making.specs.Making.{new_outcome_by}
 use Rattle.making.proofs.new_outcome.Goals as goal
 

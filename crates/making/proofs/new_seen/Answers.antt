@@ -7,7 +7,6 @@ use Rattle.making.proofs.Outcomes.{answered-alike, legal-all, new-made-by}
 use mathlib.Core.List.{List}
 use Prim.Native.Nat.{ℕ}
 use lib.ListN.{take}
-use borrow.Author.Rules.{rules}
 use Rattle.making.proofs.new_seen.Goals as goal
 
 pub returns : goal.returns

@@ -2,7 +2,6 @@
 use mathlib.Core.Path.{◌≡◌}
 use Rattle.making.specs.Making.{new_answer}
 use Rattle.making.proofs.Numbered.{new-said}
-use borrow.Author.Rules.{rules}
 use Rattle.making.proofs.new_setup.Goals as goal
 
 pub returns : goal.returns

@@ -2,7 +2,6 @@
 use mathlib.Core.Path.{sym, ap, ◌∙◌}
 use Prim.Native.Nat.{ℕ}
 use Rattle.plan.specs.Find.{seen}
-use borrow.Author.Rules.{rules}
 use Rattle.making.proofs.new_tested.Goals as goal
 
 pub returns : goal.returns

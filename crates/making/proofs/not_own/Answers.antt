@@ -2,7 +2,6 @@
 use mathlib.Core.Path.{sym, ◌∙◌}
 use borrow.Author.Tests.{eq-eqb, ne_eqb}
 use Rattle.making.specs.Making.{not_own}
-use borrow.Author.Rules.{rules}
 use Rattle.making.proofs.not_own.Goals as goal
 
 pub returns-then-given-eq0 : goal.returns-then-given-eq0

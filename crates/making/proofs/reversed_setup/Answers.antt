@@ -2,7 +2,6 @@
 use mathlib.Core.Path.{◌≡◌}
 use Rattle.making.specs.Making.{reversed_answer}
 use Rattle.making.proofs.Numbered.{reversed-said}
-use borrow.Author.Rules.{rules}
 use Rattle.making.proofs.reversed_setup.Goals as goal
 
 pub returns : goal.returns

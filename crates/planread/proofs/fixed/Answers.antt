@@ -4,7 +4,6 @@ use native.Mathlib.Omega.{arith}
 use Rattle.planread.proofs.Turns.{version-room, version-broken, version-on, version-refused}
 use borrow.Author.Tests.{eq-eqb, ne_eqb}
 use Rattle.planread.proofs.Onward.{not_on}
-use borrow.Author.Rules.{rules}
 use Rattle.planread.proofs.fixed.Goals as goal
 
 pub bounds-bytes-3 : goal.bounds-bytes-3

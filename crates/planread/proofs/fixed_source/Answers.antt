@@ -8,7 +8,6 @@ use lib.ListN.{drop, replicate}
 use Rattle.planread.proofs.Turns.{source-room, source-broken, source-on}
 use Rattle.planread.proofs.Steps.{read-refused}
 use Rattle.planread.proofs.Onward.{not_on}
-use borrow.Author.Rules.{rules}
 use Rattle.planread.proofs.fixed_source.Goals as goal
 
 pub order_at-source-requires : goal.order_at-source-requires

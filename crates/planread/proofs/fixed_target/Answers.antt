@@ -8,7 +8,6 @@ use lib.ListN.{drop, replicate}
 use Rattle.planread.proofs.Turns.{target_room, target-broken, target-on}
 use Rattle.planread.proofs.Steps.{read-refused}
 use Rattle.planread.proofs.Onward.{not_on}
-use borrow.Author.Rules.{rules}
 use Rattle.planread.proofs.fixed_target.Goals as goal
 
 pub order_at-target-requires : goal.order_at-target-requires

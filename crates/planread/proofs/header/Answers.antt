@@ -2,7 +2,6 @@
 use mathlib.Core.Path.{sym, ◌∙◌}
 use Rattle.typeset.proofs.Bools.{passed, failed}
 use Rattle.planread.proofs.Fields.{header-cut, header-tag, header-many, header-long, header-body, header-whole}
-use borrow.Author.Rules.{rules}
 use Rattle.planread.proofs.header.Goals as goal
 
 pub returns-then-left-lt3 : goal.returns-then-left-lt3

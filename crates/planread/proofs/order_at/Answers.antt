@@ -3,10 +3,7 @@ use mathlib.Core.List.{append-nil}
 use mathlib.Core.Path.{◌≡◌, sym, ◌∙◌}
 use native.Mathlib.Omega.{arith}
 use borrow.Author.Rules.{rules}
-use Prim.Native.Nat.{◌≤◌, ◌-◌}
 use lib.ListN.{drop}
-use lib.Seq.{sets}
-use Rattle.planbytes.specs.Numbers.{numbers}
 use Rattle.planbytes.proofs.Numbers.{row_next, row_done, row-pad}
 use Rattle.planread.specs.Reading.{order_in}
 use Rattle.planread.proofs.order_at.Goals as goal

@@ -2,10 +2,9 @@
 use mathlib.Core.Path.{◌≡◌, refl, sym, ap, ◌∙◌}
 use native.Mathlib.Omega.{arith}
 use borrow.Author.Rules.{rules}
-use Prim.Native.Nat.{◌≤◌, ◌<◌, ◌-◌, ◌+◌, ◌*◌}
-use lib.ListN.{length, drop, take, length-take}
-use lib.Seq.{sets, length-sets, get_or-take}
-use Rattle.planbytes.specs.Numbers.{row}
+use Prim.Native.Nat.{◌≤◌, ◌<◌, ◌+◌, ◌*◌}
+use lib.ListN.{length, take, length-take}
+use lib.Seq.{length-sets, get_or-take}
 use Rattle.planwrite.proofs.Puts.{row-all, row_put, row-end}
 use Rattle.planwrite.proofs.put_boxes.Goals as goal
 

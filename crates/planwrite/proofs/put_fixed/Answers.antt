@@ -4,7 +4,6 @@ use mathlib.Core.List.{◌++◌}
 use Prim.Native.Nat.{◌+◌}
 use Rattle.planbytes.specs.Numbers.{high, row}
 use Rattle.planwrite.proofs.Puts.{puts_then}
-use borrow.Author.Rules.{rules}
 use Rattle.planwrite.proofs.put_fixed.Goals as goal
 
 pub returns : goal.returns

@@ -4,7 +4,6 @@ use Prim.Native.Nat.{◌+◌}
 use Rattle.planbytes.specs.Numbers.{high}
 use Rattle.planwrite.proofs.Puts.{puts_then}
 use Rattle.planbytes.proofs.Lengths.{high-length}
-use borrow.Author.Rules.{rules}
 use Rattle.planwrite.proofs.put_header.Goals as goal
 
 pub returns : goal.returns

@@ -5,7 +5,6 @@ use Prim.Native.Nat.{◌+◌}
 use Rattle.planbytes.specs.Numbers.{high, row}
 use Rattle.planbytes.specs.Format.{types_body}
 use Rattle.planwrite.proofs.Puts.{puts_then}
-use borrow.Author.Rules.{rules}
 use Rattle.planwrite.proofs.put_sets.Goals as goal
 
 pub returns : goal.returns

@@ -4,7 +4,6 @@ use mathlib.Core.List.{◌++◌}
 use Rattle.planbytes.specs.Numbers.{high}
 use Rattle.planbytes.specs.Format.{field, version_body}
 use Rattle.planwrite.proofs.Puts.{puts_then}
-use borrow.Author.Rules.{rules}
 use Rattle.planwrite.proofs.put_version.Goals as goal
 
 pub returns : goal.returns

@@ -2,7 +2,6 @@
 use mathlib.Core.Path.{sym, ◌∙◌}
 use Rattle.setup.specs.Dialling.{dialled}
 use Rattle.setup.proofs.Stored.{first-32}
-use borrow.Author.Rules.{rules}
 use Rattle.setup.proofs.dial.Goals as goal
 
 pub returns : goal.returns

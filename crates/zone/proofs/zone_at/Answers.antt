@@ -3,7 +3,6 @@ use mathlib.Core.Path.{sym, ◌∙◌}
 use native.Mathlib.Omega.{arith}
 use Rattle.plan.proofs.Lookup.{found_below}
 use Rattle.zone.specs.Answer.{zone_for, zone_at}
-use borrow.Author.Rules.{rules}
 use Rattle.zone.proofs.zone_at.Goals as goal
 
 pub returns-in_default : goal.returns-in_default

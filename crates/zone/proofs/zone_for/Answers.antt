@@ -2,7 +2,6 @@
 use mathlib.Core.Path.{sym, ◌∙◌}
 use Rattle.plan.specs.Sound.{verdict}
 use Rattle.zone.specs.Answer.{answer}
-use borrow.Author.Rules.{rules}
 use Rattle.zone.proofs.zone_for.Goals as goal
 
 pub returns-then-sound : goal.returns-then-sound
