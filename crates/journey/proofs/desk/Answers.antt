@@ -1,4 +1,4 @@
--- What the check does not find by itself of `journey::desk`. Assumes nothing.
+-- `journey::desk` meets its contract. Assumes nothing.
 use mathlib.Core.Path.{◌≡◌, sym, ap, ◌∙◌}
 use Prim.Native.Nat.{ℕ, ◌+◌, ◌-◌, ◌≤◌, ◌<◌}
 use native.Mathlib.Omega.{arith}

@@ -1,4 +1,4 @@
--- What the check does not find by itself of `journey::one_hop`. Assumes nothing.
+-- `journey::one_hop` meets its contract. Assumes nothing.
 use mathlib.Core.Path.{◌≡◌}
 use mathlib.Core.Bool.{true, false}
 use borrow.Author.Tests.{not-true, not-false}

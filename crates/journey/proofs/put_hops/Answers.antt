@@ -1,4 +1,4 @@
--- What the check does not find by itself of `journey::put_hops`. Assumes nothing.
+-- `journey::put_hops` meets its contract. What is still to come, stored from here on, gives the whole. Assumes nothing.
 use mathlib.Core.Path.{◌≡◌, refl, sym, ap, ◌∙◌}
 use mathlib.Core.List.{[]}
 use Prim.Native.Nat.{◌+◌}

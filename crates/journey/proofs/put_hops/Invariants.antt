@@ -1,4 +1,4 @@
--- What the check does not find by itself of `journey::put_hops`. Assumes nothing.
+-- What the loops of `journey::put_hops` keep. Assumes nothing.
 use Prim.Native.Nat.{◌-◌}
 use Rattle.journey.proofs.Trips.{Way}
 use Rattle.journey.proofs.put_hops.Given as goal

@@ -1,4 +1,4 @@
--- What the check does not find by itself of `journey::put_line`. Assumes nothing.
+-- `journey::put_line` meets its contract. Field after field. Assumes nothing.
 use native.Mathlib.Omega.{arith}
 use mathlib.Core.List.{[], ◌∷◌, ◌++◌}
 use Rattle.text.specs.Decimal.{decimal}

@@ -1,4 +1,4 @@
--- What the check does not find by itself of `journey::put_listing`. Assumes nothing.
+-- `journey::put_listing` meets its contract. Assumes nothing.
 use Rattle.journey.specs.Hops.{journey}
 use Rattle.journey.specs.Listing.{head_line, lines, listing}
 use Rattle.journey.proofs.Texts.{and_then, from_start}

@@ -1,4 +1,4 @@
--- What the check does not find by itself of `journey::put_number`. Assumes nothing.
+-- `journey::put_number` meets its contract. Assumes nothing.
 use mathlib.Core.Path.{sym, ap}
 use Prim.Native.Nat.{◌≤◌}
 use native.Mathlib.Omega.{arith}

@@ -1,4 +1,4 @@
--- What the check does not find by itself of `journey::put_refused`. Assumes nothing.
+-- `journey::put_refused` meets its contract. Assumes nothing.
 use mathlib.Core.List.{List, [], ◌∷◌, ◌++◌}
 use Prim.Native.Nat.{ℕ}
 use native.Mathlib.Omega.{arith}

@@ -1,4 +1,4 @@
--- What the check does not find by itself of `journey::put_told`. Assumes nothing.
+-- `journey::put_told` meets its contract. Assumes nothing.
 use Rattle.journey.specs.Desk.{told}
 use Rattle.journey.proofs.put_told.Goals as goal
 

@@ -1,4 +1,4 @@
--- What the check does not find by itself of `journey::space_in`. Assumes nothing.
+-- `journey::space_in` meets its contract. Assumes nothing.
 use mathlib.Core.Path.{◌≡◌, sym, ◌∙◌}
 use native.Mathlib.Omega.{arith}
 use lib.Dec.{eqb}

@@ -1,4 +1,4 @@
--- What the check does not find by itself of `journey::space_in`. Assumes nothing.
+-- `journey::space_in` meets its contract. The loop's invariant: no space among the places passed. Assumes nothing.
 use mathlib.Core.Path.{◌≡◌}
 use mathlib.Core.Bool.{false}
 use Prim.Native.Nat.{ℕ, ◌-◌, ◌≤◌, ◌<◌}

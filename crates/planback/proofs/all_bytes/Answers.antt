@@ -1,4 +1,4 @@
--- What the check does not find by itself of `planback::all_bytes`. Assumes nothing.
+-- `planback::all_bytes` meets its contract. Assumes nothing.
 use native.Mathlib.Omega.{arith}
 use borrow.Author.Rules.{rules}
 use Rattle.planback.proofs.Ranges.{below_none, below_more, below_all}

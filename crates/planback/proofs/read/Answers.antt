@@ -1,4 +1,4 @@
--- What the check does not find by itself of `planback::read`. Assumes nothing.
+-- `planback::read` meets its contract: what the reader accepts is sound. Assumes nothing.
 use mathlib.Core.Path.{sym, ◌∙◌}
 use Rattle.planfile.proofs.Theorems.{read-sound}
 use Rattle.planback.proofs.Again.{as-accepted}

@@ -1,4 +1,4 @@
--- What the check does not find by itself of `planback::rewrite`. Assumes nothing.
+-- `planback::rewrite` meets its contract: what is accepted is the file of its plan. Assumes nothing.
 use mathlib.Core.Path.{sym}
 use native.Mathlib.Omega.{arith}
 use Prim.Native.Nat.{◌≤◌}

@@ -1,4 +1,4 @@
--- What the check does not find by itself of `planback::rows`. Assumes nothing.
+-- What the loops of `planback::rows` keep. Assumes nothing.
 use Prim.Native.Nat.{◌^◌, ◌≤◌}
 use lib.ListN.{take}
 use Rattle.planbytes.specs.Numbers.{Below}

@@ -1,4 +1,4 @@
--- What the check does not find by itself of `planback::scan`. Assumes nothing.
+-- `planback::scan` meets its contract: what is accepted is sound. Assumes nothing.
 use mathlib.Core.Path.{sym, ap, ◌∙◌}
 use Rattle.planread.specs.declared.Sight.{Sight}
 use Rattle.planread.specs.Reading.{read_of}

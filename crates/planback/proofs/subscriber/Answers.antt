@@ -1,4 +1,4 @@
--- What the check does not find by itself of `planback::subscriber`. Assumes nothing.
+-- `planback::subscriber` meets its contract. Assumes nothing.
 use Rattle.planbytes.specs.Numbers.{Below}
 use Rattle.planback.proofs.subscriber.Goals as goal
 

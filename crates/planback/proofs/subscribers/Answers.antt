@@ -1,4 +1,4 @@
--- What the check does not find by itself of `planback::subscribers`. Assumes nothing.
+-- `planback::subscribers` meets its contract. Assumes nothing.
 use mathlib.Core.Path.{◌≡◌}
 use native.Mathlib.Omega.{arith}
 use borrow.Author.Rules.{rules}

@@ -1,4 +1,4 @@
--- What the check does not find by itself of `planback::subscribers`. Assumes nothing.
+-- What the loops of `planback::subscribers` keep. Assumes nothing.
 use Prim.Native.Nat.{◌≤◌}
 use lib.ListN.{take}
 use Rattle.planfile.specs.Typed.{AllTyped}

@@ -1,4 +1,4 @@
--- What the check does not find by itself of `planback::there_and_back`. Assumes nothing.
+-- `planback::there_and_back` meets its contract. Assumes nothing.
 use native.Mathlib.Omega.{arith}
 use Rattle.planback.proofs.Again.{back-room, back_read, back-refused}
 use Rattle.planback.proofs.there_and_back.Goals as goal

@@ -1,4 +1,4 @@
--- What the check does not find by itself of `planback::unwritten`. Assumes nothing.
+-- `planback::unwritten` meets its contract. Assumes nothing.
 use Rattle.planback.proofs.Again.{beside-refusal}
 use Rattle.planback.proofs.unwritten.Goals as goal
 

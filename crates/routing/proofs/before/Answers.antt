@@ -1,4 +1,4 @@
--- What the check does not find by itself of `routing::before`. Assumes nothing.
+-- `routing::before` meets its contract. Assumes nothing.
 use borrow.Author.Tests.{lt-ltb, le-ltb}
 use Rattle.routing.specs.Steps.{stands, before}
 use Rattle.routing.proofs.before.Goals as goal

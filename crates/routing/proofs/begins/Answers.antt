@@ -1,4 +1,4 @@
--- What the check does not find by itself of `routing::begins`. Assumes nothing.
+-- `routing::begins` meets its contract. Assumes nothing.
 use mathlib.Core.Path.{◌≡◌, sym, ap, ◌∙◌}
 use Prim.Native.Nat.{◌-◌}
 use lib.ListN.{length}

@@ -1,4 +1,4 @@
--- What the check does not find by itself of `routing::box_chosen`. Assumes nothing.
+-- `routing::box_chosen` meets its contract. Assumes nothing.
 use mathlib.Core.Path.{sym, ◌∙◌}
 use Rattle.setup.specs.Setups.{routing}
 use Rattle.routing.specs.Interface.{interface_at}

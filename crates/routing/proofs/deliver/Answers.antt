@@ -1,4 +1,4 @@
--- What the check does not find by itself of `routing::deliver`. Assumes nothing.
+-- `routing::deliver` meets its contract. Assumes nothing.
 use mathlib.Core.Path.{refl}
 use Rattle.routing.specs.Routing.{answered}
 use Rattle.routing.specs.Places.{delivered}

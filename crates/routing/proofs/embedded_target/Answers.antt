@@ -1,4 +1,4 @@
--- What the check does not find by itself of `routing::embedded_target`. Assumes nothing.
+-- `routing::embedded_target` meets its contract. Assumes nothing.
 use mathlib.Core.Path.{◌≡◌, sym, ap, ◌∙◌}
 use native.Mathlib.Omega.{arith}
 use lib.ListN.{length, length-take}

@@ -1,4 +1,4 @@
--- What the check does not find by itself of `routing::end_part`. Assumes nothing.
+-- `routing::end_part` meets its contract. Assumes nothing.
 use Rattle.routing.proofs.Parts.{part_cut}
 use Rattle.routing.proofs.end_part.Goals as goal
 

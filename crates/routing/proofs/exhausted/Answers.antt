@@ -1,4 +1,4 @@
--- What the check does not find by itself of `routing::exhausted`. Assumes nothing.
+-- `routing::exhausted` meets its contract. Assumes nothing.
 use mathlib.Core.Path.{sym, ap, ◌∙◌}
 use lib.ListN.{drop}
 use Rattle.plan.specs.declared.Region.{Region}

@@ -1,4 +1,4 @@
--- What the check does not find by itself of `routing::expand`. Assumes nothing.
+-- `routing::expand` meets its contract. Assumes nothing.
 use mathlib.Core.Path.{sym, ap, ◌∙◌}
 use lib.ListN.{take, drop}
 use Rattle.plan.specs.declared.Region.{Region}

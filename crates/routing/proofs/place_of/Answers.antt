@@ -1,4 +1,4 @@
--- What the check does not find by itself of `routing::place_of`. Assumes nothing.
+-- `routing::place_of` meets its contract. Assumes nothing.
 use mathlib.Core.Path.{◌≡◌, sym, ◌∙◌}
 use native.Mathlib.Omega.{arith}
 use lib.ListN.{length}

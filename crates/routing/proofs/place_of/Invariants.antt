@@ -1,4 +1,4 @@
--- What the check does not find by itself of `routing::place_of`. Assumes nothing.
+-- `routing::place_of` meets its contract. The loop's invariant: the type stands at no place passed. Assumes nothing.
 use mathlib.Core.Path.{◌≡◌}
 use mathlib.Core.Bool.{false}
 use Prim.Native.Nat.{ℕ, ◌≤◌, ◌<◌}

@@ -1,4 +1,4 @@
--- What the check does not find by itself of `routing::put`. Assumes nothing.
+-- `routing::put` meets its contract. Assumes nothing.
 use mathlib.Core.Path.{◌≡◌, refl, sym, ap, ◌∙◌}
 use Prim.Native.Nat.{◌≤◌}
 use native.Mathlib.Omega.{arith}

@@ -1,4 +1,4 @@
--- What the check does not find by itself of `routing::received`. Assumes nothing.
+-- `routing::received` meets its contract. Assumes nothing.
 use Prim.Native.Nat.{◌≤◌}
 use lib.ListN.{length}
 use native.Mathlib.Omega.{arith}

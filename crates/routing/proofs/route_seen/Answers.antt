@@ -1,4 +1,4 @@
--- What the check does not find by itself of `routing::route_seen`. Assumes nothing.
+-- `routing::route_seen` meets its contract. What the parts ask is shown with no plan at hand; what is promised is shown for any plan that shows `v`. Assumes nothing.
 use mathlib.Core.Path.{◌≡◌, refl, sym, ap, ◌∙◌}
 use Prim.Native.Nat.{◌≤◌}
 use Rattle.typeset.proofs.Bools.{clash}

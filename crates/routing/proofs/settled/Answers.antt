@@ -1,4 +1,4 @@
--- What the check does not find by itself of `routing::settled`. Assumes nothing.
+-- `routing::settled` meets its contract. Assumes nothing.
 use mathlib.Core.Path.{◌≡◌, refl}
 use Rattle.typeset.proofs.Bools.{passed, failed}
 use mathlib.Core.Bool.{true, false}

@@ -1,4 +1,4 @@
--- What the check does not find by itself of `routing::suffix_begins`. Assumes nothing.
+-- `routing::suffix_begins` meets its contract. Assumes nothing.
 use mathlib.Core.Path.{sym, ap, ◌∙◌}
 use Rattle.setup.specs.declared.Placing.{Placing}
 use Rattle.setup.specs.Setups.{list_of}

@@ -1,4 +1,4 @@
--- What the check does not find by itself of `setupbytes::fields_in`. Assumes nothing.
+-- `setupbytes::fields_in` meets its contract. Assumes nothing.
 use Rattle.setupbytes.specs.Codec.{fields_in}
 use Rattle.setupbytes.proofs.fields_in.Goals as goal
 

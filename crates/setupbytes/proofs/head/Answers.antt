@@ -1,4 +1,4 @@
--- What the check does not find by itself of `setupbytes::head`. Assumes nothing.
+-- `setupbytes::head` meets its contract. Assumes nothing.
 use Rattle.setupbytes.specs.Codec.{head}
 use Rattle.setupbytes.proofs.head.Goals as goal
 

@@ -1,4 +1,4 @@
--- What the check does not find by itself of `setupbytes::head_of`. Assumes nothing.
+-- `setupbytes::head_of` meets its contract. Assumes nothing.
 use Rattle.planbytes.specs.Numbers.{high}
 use Rattle.planbytes.specs.Format.{field}
 use Rattle.setupbytes.specs.Codec.{head_of}

@@ -1,4 +1,4 @@
--- What the check does not find by itself of `setupbytes::places`. Assumes nothing.
+-- `setupbytes::places` meets its contract. Assumes nothing.
 use mathlib.Core.Path.{◌≡◌, sym, ◌∙◌}
 use native.Mathlib.Omega.{arith}
 use Rattle.setupbytes.proofs.Stores.{taken-all, taken_next, taken-done}

@@ -1,4 +1,4 @@
--- What the check does not find by itself of `setupbytes::places`. Assumes nothing.
+-- What the loops of `setupbytes::places` keep. Assumes nothing.
 use mathlib.Core.Path.{◌≡◌}
 use Prim.Native.Nat.{◌≤◌}
 use lib.ListN.{drop, take}

@@ -1,4 +1,4 @@
--- What the check does not find by itself of `setupbytes::put`. Assumes nothing.
+-- `setupbytes::put` meets its contract. Assumes nothing.
 use mathlib.Core.Path.{◌≡◌}
 use Prim.Native.Nat.{◌+◌, ◌-◌, ◌≤◌}
 use lib.ListN.{length, drop}

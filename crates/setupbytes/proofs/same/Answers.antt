@@ -1,4 +1,4 @@
--- What the check does not find by itself of `setupbytes::same`. Assumes nothing.
+-- `setupbytes::same` meets its contract. Assumes nothing.
 use mathlib.Core.Path.{◌≡◌, sym, ap, ◌∙◌}
 use mathlib.Core.Bool.{Bool, true, ◌&&◌, and-true}
 use native.Mathlib.Numerals.{add-one}

@@ -1,4 +1,4 @@
--- What the check does not find by itself of `setupbytes::same`. Assumes nothing.
+-- `setupbytes::same` meets its contract. The loop goes on past a difference, so its invariant says what the test of the bytes passed is, true or false. Assumes nothing.
 use mathlib.Core.Path.{◌≡◌}
 use Prim.Native.Nat.{◌≤◌}
 use lib.Dec.{eqb}

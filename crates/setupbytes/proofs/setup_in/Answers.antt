@@ -1,4 +1,4 @@
--- What the check does not find by itself of `setupbytes::setup_in`. Assumes nothing.
+-- `setupbytes::setup_in` meets its contract. Assumes nothing.
 use borrow.Author.Tests.{eq-eqb, ne_eqb}
 use Rattle.typeset.proofs.Bools.{passed, failed}
 use Rattle.setupbytes.specs.Codec.{setup_in}
