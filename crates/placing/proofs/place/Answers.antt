@@ -1,5 +1,4 @@
--- `placing::place` meets its contract: a walk of its MIR, by hand, with seven calls and no branch. The row is lent as a `&[Call]` for `lowest_free` and for `copy_out` and taken back each time; the two lists go to `route_unless` for good, and the row to `store`, each at its own lifetime.
--- Assumes nothing.
+-- `placing::place` meets its contract. Assumes nothing.
 use Rattle.std.proofs.Common.{length}
 use Rattle.placing.proofs.Settles.{answers-placed, leaves-row}
 use Rattle.placing.proofs.place.Goals as goal

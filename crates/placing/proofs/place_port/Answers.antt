@@ -1,5 +1,4 @@
--- `placing::place_port` meets its contract: a walk of its MIR, by hand. The borrow of the port is open from the first statement to the last; the two lists go to `route_unless` for good, each at its own lifetime.
--- Assumes nothing.
+-- `placing::place_port` meets its contract. Assumes nothing.
 use Rattle.std.proofs.Common.{length}
 use Rattle.placing.proofs.Settles.{port-placed, port-record}
 use Rattle.placing.proofs.place_port.Goals as goal
