@@ -1,4 +1,4 @@
--- What the check does not find by itself of `dfc_index::all_bytes`. Assumes nothing.
+-- `dfc_index::all_bytes` meets its contract. Assumes nothing.
 use native.Mathlib.Omega.{arith}
 use Rattle.planback.proofs.Ranges.{below_none, below_more, below_all}
 use borrow.Author.Rules.{rules}

@@ -1,4 +1,4 @@
--- What the check does not find by itself of `dfc_index::all_bytes`. Assumes nothing.
+-- What the loops of `dfc_index::all_bytes` keep. Assumes nothing.
 use mathlib.Core.Path.{◌≡◌}
 use Prim.Native.Nat.{◌≤◌}
 use lib.ListN.{length, take}

@@ -1,4 +1,4 @@
--- What the check does not find by itself of `dfc_index::dfc_index_build`. Assumes nothing.
+-- `dfc_index::dfc_index_build` meets its contract. Assumes nothing.
 use mathlib.Core.Path.{refl, sym, ap, ◌∙◌}
 use Rattle.planread.specs.declared.Reading.{Reading}
 use Rattle.index.specs.declared.Indexed.{Indexed}

@@ -1,4 +1,4 @@
--- What the check does not find by itself of `dfc_index::dfc_index_look`. Assumes nothing.
+-- `dfc_index::dfc_index_look` meets its contract. Assumes nothing.
 use mathlib.Core.Path.{refl}
 use Rattle.dfc_index.specs.Files.{listed}
 use Rattle.dfc_index.proofs.dfc_index_look.Goals as goal

@@ -1,4 +1,4 @@
--- What the check does not find by itself of `dfc_index::dfc_index_update`. Assumes nothing.
+-- `dfc_index::dfc_index_update` meets its contract. Assumes nothing.
 use mathlib.Core.Path.{◌≡◌, sym, ap, ◌∙◌}
 use mathlib.Core.Bool.{true}
 use mathlib.Core.List.{List, ◌++◌}

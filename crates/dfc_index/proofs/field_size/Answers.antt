@@ -1,4 +1,4 @@
--- What the check does not find by itself of `dfc_index::field_size`. Assumes nothing.
+-- `dfc_index::field_size` meets its contract. Assumes nothing.
 use mathlib.Core.Path.{◌≡◌}
 use native.Mathlib.Omega.{arith}
 use lib.ListN.{length, length-take}

@@ -1,4 +1,4 @@
--- What the check does not find by itself of `dfc_index::place`. Assumes nothing.
+-- `dfc_index::place` meets its contract. Assumes nothing.
 use mathlib.Core.Path.{sym, ap, ◌∙◌}
 use native.Mathlib.Omega.{arith}
 use Rattle.plan.proofs.Lookup.{found_below}

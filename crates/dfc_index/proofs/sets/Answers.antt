@@ -1,4 +1,4 @@
--- What the check does not find by itself of `dfc_index::sets`. Assumes nothing.
+-- `dfc_index::sets` meets its contract. Assumes nothing.
 use mathlib.Core.Path.{refl}
 use Rattle.planbytes.specs.Numbers.{high}
 use Rattle.dfc_index.proofs.sets.Goals as goal

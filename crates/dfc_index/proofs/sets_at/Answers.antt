@@ -1,4 +1,4 @@
--- What the check does not find by itself of `dfc_index::sets_at`. Assumes nothing.
+-- `dfc_index::sets_at` meets its contract. Assumes nothing.
 use mathlib.Core.Path.{◌≡◌, sym}
 use Prim.Native.Nat.{◌<◌}
 use native.Mathlib.Omega.{arith}

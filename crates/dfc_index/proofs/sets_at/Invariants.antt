@@ -1,4 +1,4 @@
--- What the check does not find by itself of `dfc_index::sets_at`. Assumes nothing.
+-- What the loops of `dfc_index::sets_at` keep. Assumes nothing.
 use mathlib.Core.Path.{◌≡◌}
 use Prim.Native.Nat.{◌+◌, ◌*◌, ◌≤◌}
 use Rattle.dfc_index.specs.Steps.{sets_at}

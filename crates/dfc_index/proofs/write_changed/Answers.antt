@@ -1,4 +1,4 @@
--- What the check does not find by itself of `dfc_index::write_changed`. Assumes nothing.
+-- `dfc_index::write_changed` meets its contract. Assumes nothing.
 use mathlib.Core.Path.{ap, ◌∙◌}
 use mathlib.Core.List.{◌++◌}
 use Prim.Native.Nat.{ℕ, ◌+◌, ◌-◌, ◌≤◌}

@@ -1,4 +1,4 @@
--- What the check does not find by itself of `dfc_store::dfc_data_read`. Assumes nothing.
+-- `dfc_store::dfc_data_read` meets its contract. Assumes nothing.
 use Rattle.dfc_store.proofs.Told.{told-sound, told-refused}
 use Rattle.dfc_store.proofs.dfc_data_read.Goals as goal
 

@@ -1,4 +1,4 @@
--- What the check does not find by itself of `dfc_store::dfc_data_write`. Assumes nothing.
+-- `dfc_store::dfc_data_write` meets its contract. Assumes nothing.
 use Rattle.dfc_store.proofs.Told.{told-sound, rows-sound, told-refused, rows-refused}
 use Rattle.dfc_store.proofs.dfc_data_write.Goals as goal
 

@@ -1,4 +1,4 @@
--- What the check does not find by itself of `dfc_store::who_in`. Assumes nothing.
+-- `dfc_store::who_in` meets its contract. Assumes nothing.
 use Rattle.dfc_store.proofs.Told.{known-shown}
 use Rattle.dfc_store.proofs.who_in.Goals as goal
 

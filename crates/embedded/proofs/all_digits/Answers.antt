@@ -1,4 +1,4 @@
--- What the check does not find by itself of `embedded::all_digits`. Assumes nothing.
+-- `embedded::all_digits` meets its contract. Assumes nothing.
 use mathlib.Core.Path.{◌≡◌, sym}
 use Rattle.typeset.proofs.Bools.{passed, failed}
 use Rattle.typeset.proofs.Below.{every-none, every_more, every-no}

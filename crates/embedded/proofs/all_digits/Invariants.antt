@@ -1,4 +1,4 @@
--- What the check does not find by itself of `embedded::all_digits`. Assumes nothing.
+-- `embedded::all_digits` meets its contract. The loop's invariant: each byte passed is a digit. Assumes nothing.
 use mathlib.Core.Path.{◌≡◌}
 use mathlib.Core.Bool.{true}
 use Rattle.typeset.specs.Sets.{every}

@@ -1,4 +1,4 @@
--- What the check does not find by itself of `embedded::embedded_in`. Assumes nothing.
+-- `embedded::embedded_in` meets its contract. Assumes nothing.
 use mathlib.Core.List.{List}
 use Prim.Native.Nat.{ℕ}
 use mathlib.Core.Path.{ap, ◌∙◌}

@@ -1,4 +1,4 @@
--- What the check does not find by itself of `embedded::number`. Assumes nothing.
+-- `embedded::number` meets its contract. Assumes nothing.
 use mathlib.Core.Path.{◌≡◌, refl, sym, ◌∙◌}
 use lib.ListN.{length}
 use Rattle.embedded.proofs.Digits.{digit_at, ten-none, ten-eight, ten-next, number-next, number-done}

@@ -1,4 +1,4 @@
--- What the check does not find by itself of `embedded::number`. Assumes nothing.
+-- `embedded::number` meets its contract. The loop's invariant looks forward: the number of what is left, after what was read, is the whole number. Assumes nothing.
 use mathlib.Core.Path.{◌≡◌}
 use lib.ListN.{length, drop}
 use Rattle.embedded.specs.Embedded.{number_from}

@@ -1,4 +1,4 @@
--- What the check does not find by itself of `embedded::skipped`. Assumes nothing.
+-- `embedded::skipped` meets its contract. Assumes nothing.
 use Rattle.typeset.proofs.Bools.{passed, failed}
 use borrow.Author.Tests.{eq-eqb, ne_eqb}
 use Rattle.embedded.specs.Embedded.{coded, skipped}

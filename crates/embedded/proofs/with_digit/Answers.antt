@@ -1,4 +1,4 @@
--- What the check does not find by itself of `embedded::with_digit`. Assumes nothing.
+-- `embedded::with_digit` meets its contract. Assumes nothing.
 use native.Mathlib.Omega.{arith}
 use mathlib.Core.Path.{refl}
 use Rattle.embedded.specs.Embedded.{number_from}

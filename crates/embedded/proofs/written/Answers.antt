@@ -1,4 +1,4 @@
--- What the check does not find by itself of `embedded::written`. Assumes nothing.
+-- `embedded::written` meets its contract. Assumes nothing.
 use Rattle.typeset.proofs.Bools.{passed, failed}
 use mathlib.Core.Path.{sym, ap, ◌∙◌}
 use borrow.Author.Tests.{eq-eqb, ne_eqb, le-leb, lt-leb}

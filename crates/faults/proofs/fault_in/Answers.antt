@@ -1,4 +1,4 @@
--- What the check does not find by itself of `faults::fault_in`. Assumes nothing.
+-- `faults::fault_in` meets its contract: the faults one by one. Assumes nothing.
 use Rattle.typeset.proofs.Bools.{passed, failed}
 use mathlib.Core.Path.{sym, ◌∙◌}
 use borrow.Author.Tests.{eq-eqb, ne_eqb}

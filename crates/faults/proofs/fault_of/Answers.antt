@@ -1,4 +1,4 @@
--- What the check does not find by itself of `faults::fault_of`. Assumes nothing.
+-- `faults::fault_of` meets its contract: a zone is built only for a list. Assumes nothing.
 use mathlib.Core.Path.{◌≡◌, ap, ◌∙◌}
 use mathlib.Core.List.{List}
 use Prim.Native.Nat.{ℕ}

@@ -1,4 +1,4 @@
--- What the check does not find by itself of `faults::in_range`. Assumes nothing.
+-- `faults::in_range` meets its contract. Assumes nothing.
 use Rattle.typeset.proofs.Bools.{passed, failed}
 use Rattle.setup.specs.Setups.{in_range}
 use Rattle.faults.proofs.in_range.Goals as goal

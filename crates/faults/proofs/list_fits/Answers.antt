@@ -1,4 +1,4 @@
--- What the check does not find by itself of `faults::list_fits`. Assumes nothing.
+-- `faults::list_fits` meets its contract. Assumes nothing.
 use mathlib.Core.Path.{◌≡◌, sym, ◌∙◌}
 use borrow.Author.Tests.{eq-eqb, ne_eqb}
 use Rattle.typeset.proofs.Below.{every-none, every_more, every-no}

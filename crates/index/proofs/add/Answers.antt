@@ -1,4 +1,4 @@
--- What the check does not find by itself of `index::add`. Assumes nothing.
+-- `index::add` meets its contract. Assumes nothing.
 use borrow.Author.Tests.{lt-ltb, le-ltb}
 use Rattle.index.specs.Steps.{with_one_more}
 use Rattle.index.proofs.add.Goals as goal

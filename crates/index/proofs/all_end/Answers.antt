@@ -1,4 +1,4 @@
--- What the check does not find by itself of `index::all_end`. Assumes nothing.
+-- `index::all_end` meets its contract. Assumes nothing.
 use mathlib.Core.Path.{◌≡◌, sym, ◌∙◌}
 use native.Mathlib.Omega.{arith}
 use Rattle.typeset.proofs.Below.{every-none, every_more, every-no}

@@ -1,4 +1,4 @@
--- What the check does not find by itself of `index::all_end`. Assumes nothing.
+-- What the loops of `index::all_end` keep. Assumes nothing.
 use mathlib.Core.Path.{◌≡◌}
 use mathlib.Core.Bool.{true}
 use mathlib.Core.List.{[]}

@@ -1,4 +1,4 @@
--- What the check does not find by itself of `index::build`. Assumes nothing.
+-- `index::build` meets its contract. Assumes nothing.
 use mathlib.Core.Path.{sym}
 use Rattle.index.specs.Said.{built, left}
 use Rattle.index.proofs.build.Goals as goal

@@ -1,4 +1,4 @@
--- What the check does not find by itself of `index::build_tested`. Assumes nothing.
+-- `index::build_tested` meets its contract. Assumes nothing.
 use mathlib.Core.Path.{◌≡◌, refl, ◌∙◌}
 use mathlib.Core.Bool.{true, false}
 use Rattle.plan.specs.Find.{used}

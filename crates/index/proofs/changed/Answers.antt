@@ -1,4 +1,4 @@
--- What the check does not find by itself of `index::changed`. Assumes nothing.
+-- `index::changed` meets its contract. Assumes nothing.
 use mathlib.Core.Path.{refl}
 use Rattle.index.specs.Index.{changed}
 use Rattle.index.proofs.changed.Goals as goal

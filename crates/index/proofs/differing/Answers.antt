@@ -1,4 +1,4 @@
--- What the check does not find by itself of `index::differing`. Assumes nothing.
+-- `index::differing` meets its contract. Assumes nothing.
 use Rattle.index.specs.Steps.{differing}
 use Rattle.index.proofs.differing.Goals as goal
 

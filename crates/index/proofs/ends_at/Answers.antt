@@ -1,4 +1,4 @@
--- What the check does not find by itself of `index::ends_at`. Assumes nothing.
+-- `index::ends_at` meets its contract. Assumes nothing.
 use mathlib.Core.Path.{◌≡◌}
 use Prim.Native.Nat.{◌-◌}
 use native.Mathlib.Omega.{arith}

@@ -1,4 +1,4 @@
--- What the check does not find by itself of `index::ends_at`. Assumes nothing.
+-- What the loops of `index::ends_at` keep. Assumes nothing.
 use mathlib.Core.Path.{◌≡◌}
 use Prim.Native.Nat.{◌+◌, ◌-◌, ◌≤◌}
 use lib.Dec.{eqb}

@@ -1,4 +1,4 @@
--- What the check does not find by itself of `index::enter`. Assumes nothing.
+-- `index::enter` meets its contract. The loop looks forward: what the types that are left will do to the index gives the whole. Assumes nothing.
 use mathlib.Core.Path.{◌≡◌}
 use Prim.Native.Nat.{◌^◌, ◌<◌}
 use Rattle.typeset.specs.Sets.{size}

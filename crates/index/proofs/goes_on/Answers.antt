@@ -1,4 +1,4 @@
--- What the check does not find by itself of `index::goes_on`. Assumes nothing.
+-- `index::goes_on` meets its contract. Assumes nothing.
 use mathlib.Core.Path.{◌≡◌, refl, sym, ◌∙◌}
 use Prim.Native.Nat.{◌+◌, ◌<◌}
 use native.Mathlib.Omega.{arith}

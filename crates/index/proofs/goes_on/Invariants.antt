@@ -1,4 +1,4 @@
--- What the check does not find by itself of `index::goes_on`. Assumes nothing.
+-- What the loops of `index::goes_on` keep. Assumes nothing.
 use mathlib.Core.Path.{◌≡◌}
 use mathlib.Core.List.{List}
 use Prim.Native.Nat.{ℕ, ◌^◌, ◌<◌}

@@ -1,4 +1,4 @@
--- What the check does not find by itself of `index::look`. Assumes nothing.
+-- `index::look` meets its contract. Assumes nothing.
 use mathlib.Core.Path.{◌≡◌, refl, ◌∙◌}
 use borrow.Author.Tests.{lt-ltb, le-ltb}
 use Rattle.index.specs.Index.{row_for, looked_up}

@@ -1,4 +1,4 @@
--- What the check does not find by itself of `index::matches`. Assumes nothing.
+-- `index::matches` meets its contract. Assumes nothing.
 use mathlib.Core.Path.{◌≡◌, refl, sym, ap, ◌∙◌}
 use mathlib.Core.List.{List}
 use Prim.Native.Nat.{◌+◌, ◌≤◌, ◌<◌}

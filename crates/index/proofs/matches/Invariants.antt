@@ -1,4 +1,4 @@
--- What the check does not find by itself of `index::matches`. Assumes nothing.
+-- What the loops of `index::matches` keep. Assumes nothing.
 use mathlib.Core.Path.{◌≡◌}
 use Prim.Native.Nat.{◌≤◌}
 use lib.ListN.{length, take, drop, replicate}

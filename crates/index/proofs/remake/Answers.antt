@@ -1,4 +1,4 @@
--- What the check does not find by itself of `index::remake`. Assumes nothing.
+-- `index::remake` meets its contract. Assumes nothing.
 use mathlib.Core.Path.{◌≡◌, refl, sym, ap, ◌∙◌}
 use mathlib.Core.List.{List}
 use Prim.Native.Nat.{◌+◌, ◌≤◌, ◌<◌}

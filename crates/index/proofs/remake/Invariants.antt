@@ -1,4 +1,4 @@
--- What the check does not find by itself of `index::remake`. Assumes nothing.
+-- What the loops of `index::remake` keep. Assumes nothing.
 use mathlib.Core.Path.{◌≡◌}
 use Prim.Native.Nat.{◌≤◌}
 use lib.ListN.{take, drop, replicate}

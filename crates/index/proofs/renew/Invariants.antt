@@ -1,4 +1,4 @@
--- What the check does not find by itself of `index::renew`. Assumes nothing.
+-- `index::renew` meets its contract. The loop looks forward, as in `enter`. Assumes nothing.
 use mathlib.Core.Path.{◌≡◌}
 use Prim.Native.Nat.{◌^◌, ◌<◌}
 use lib.ListN.{take}

@@ -1,4 +1,4 @@
--- What the check does not find by itself of `index::sets_fit`. Assumes nothing.
+-- `index::sets_fit` meets its contract. Assumes nothing.
 use Rattle.index.proofs.Fits.{fit-code}
 use Rattle.index.proofs.sets_fit.Goals as goal
 

@@ -1,4 +1,4 @@
--- What the check does not find by itself of `index::shaped`. Assumes nothing.
+-- `index::shaped` meets its contract. Assumes nothing.
 use mathlib.Core.Path.{◌≡◌}
 use mathlib.Core.List.{[]}
 use Prim.Native.Nat.{ℕ, ◌≤◌, ◌<◌}

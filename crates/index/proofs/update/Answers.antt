@@ -1,4 +1,4 @@
--- What the check does not find by itself of `index::update`. Assumes nothing.
+-- `index::update` meets its contract. Assumes nothing.
 use mathlib.Core.Path.{sym}
 use Rattle.index.specs.Said.{updated, plan_after, index_after}
 use Rattle.index.proofs.update.Goals as goal

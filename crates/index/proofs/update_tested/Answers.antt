@@ -1,4 +1,4 @@
--- What the check does not find by itself of `index::update_tested`. Assumes nothing.
+-- `index::update_tested` meets its contract. Assumes nothing.
 use mathlib.Core.Path.{◌≡◌, sym, ◌∙◌}
 use mathlib.Core.Bool.{true, false}
 use native.Mathlib.Omega.{arith}

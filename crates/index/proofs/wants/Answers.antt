@@ -1,4 +1,4 @@
--- What the check does not find by itself of `index::wants`. Assumes nothing.
+-- `index::wants` meets its contract. Assumes nothing.
 use borrow.Author.Tests.{lt-ltb, le-ltb}
 use Rattle.index.specs.Steps.{wants}
 use Rattle.index.proofs.wants.Goals as goal

@@ -1,4 +1,4 @@
--- What the check does not find by itself of `made::continued_of`. Assumes nothing.
+-- `made::continued_of` meets its contract. Assumes nothing.
 use Rattle.made.specs.Made.{continued_setup}
 use Rattle.made.proofs.continued_of.Goals as goal
 

@@ -1,4 +1,4 @@
--- What the check does not find by itself of `made::further`. Assumes nothing.
+-- `made::further` meets its contract. Assumes nothing.
 use mathlib.Core.Path.{sym, ◌∙◌}
 use borrow.Author.Tests.{eq-eqb, ne_eqb}
 use Rattle.made.specs.Made.{further}

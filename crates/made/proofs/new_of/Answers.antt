@@ -1,4 +1,4 @@
--- What the check does not find by itself of `made::new_of`. Assumes nothing.
+-- `made::new_of` meets its contract. Assumes nothing.
 use Rattle.made.specs.Made.{new_setup}
 use Rattle.made.proofs.new_of.Goals as goal
 

@@ -1,4 +1,4 @@
--- What the check does not find by itself of `making::address_held`. Assumes nothing.
+-- `making::address_held` meets its contract. Assumes nothing.
 use mathlib.Core.Path.{sym, ap, ◌∙◌}
 use Rattle.making.proofs.Shown.{held_by, held-shown}
 use Rattle.making.proofs.address_held.Goals as goal

@@ -1,4 +1,4 @@
--- What the check does not find by itself of `making::answered`. Assumes nothing.
+-- `making::answered` meets its contract. Assumes nothing.
 use Rattle.making.specs.Making.{answered}
 use Rattle.making.proofs.answered.Goals as goal
 

@@ -1,4 +1,4 @@
--- What the check does not find by itself of `making::continuable`. Assumes nothing.
+-- `making::continuable` meets its contract. Assumes nothing.
 use mathlib.Core.Path.{◌∙◌}
 use Rattle.typeset.proofs.Bools.{passed, failed}
 use Rattle.making.proofs.Shown.{well-formed-by}

@@ -1,4 +1,4 @@
--- What the check does not find by itself of `making::new_seen`. Assumes nothing.
+-- `making::new_seen` meets its contract. Assumes nothing.
 use mathlib.Core.Path.{◌≡◌, ap, ap₂, ◌∙◌}
 use Rattle.making.specs.Making.{box_address, new_setup, new_outcome_by, answered, new_answer_by}
 use Rattle.plan.proofs.Sight.{seen_first}

@@ -1,4 +1,4 @@
--- What the check does not find by itself of `making::not_own`. Assumes nothing.
+-- `making::not_own` meets its contract. Assumes nothing.
 use mathlib.Core.Path.{sym, ◌∙◌}
 use borrow.Author.Tests.{eq-eqb, ne_eqb}
 use Rattle.making.specs.Making.{not_own}

@@ -1,4 +1,4 @@
--- What the check does not find by itself of `making::reversed_outcome`. Assumes nothing.
+-- `making::reversed_outcome` meets its contract: one chain, in the definition's order. Assumes nothing.
 use mathlib.Core.Path.{◌≡◌, refl, ◌∙◌}
 use mathlib.Core.Bool.{Bool, true, false}
 use Rattle.refusal.specs.declared.Refusal.{Refusal}

@@ -1,4 +1,4 @@
--- What the check does not find by itself of `making::reversed_seen`. Assumes nothing.
+-- `making::reversed_seen` meets its contract. Assumes nothing.
 use mathlib.Core.Path.{◌≡◌, ap, ap₂, ◌∙◌}
 use Rattle.making.specs.Making.{box_address, box_type, reversed_setup, reversed_outcome_by, answered, reversed_answer_by}
 use Rattle.making.proofs.Outcomes.{answered-alike, legal-all, reversed-made-by}

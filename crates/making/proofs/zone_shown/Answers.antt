@@ -1,4 +1,4 @@
--- What the check does not find by itself of `making::zone_shown`. Assumes nothing.
+-- `making::zone_shown` meets its contract. Assumes nothing.
 use mathlib.Core.Path.{sym, ap, ◌∙◌}
 use Rattle.zone.specs.Order.{held}
 use Rattle.making.proofs.Shown.{source-zone-seen, target-zone-seen}

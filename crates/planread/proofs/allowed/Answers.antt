@@ -1,4 +1,4 @@
--- What the check does not find by itself of `planread::allowed`. Assumes nothing.
+-- `planread::allowed` meets its contract. Assumes nothing.
 use borrow.Author.Tests.{lt-ltb, le-ltb, eq-eqb, ne_eqb}
 use Rattle.planread.specs.Reading.{allowed}
 use Rattle.planread.proofs.allowed.Goals as goal

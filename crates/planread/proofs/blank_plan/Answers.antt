@@ -1,4 +1,4 @@
--- What the check does not find by itself of `planread::blank_plan`. Assumes nothing.
+-- `planread::blank_plan` meets its contract. Assumes nothing.
 use Rattle.planread.specs.Reading.{blank_plan}
 use Rattle.planread.proofs.blank_plan.Goals as goal
 

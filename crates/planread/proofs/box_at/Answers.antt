@@ -1,4 +1,4 @@
--- What the check does not find by itself of `planread::box_at`. Assumes nothing.
+-- `planread::box_at` meets its contract. Assumes nothing.
 use borrow.Author.Tests.{lt-ltb, le-ltb}
 use Rattle.planread.proofs.box_at.Goals as goal
 

@@ -1,4 +1,4 @@
--- What the check does not find by itself of `planread::boxes_at`. Assumes nothing.
+-- `planread::boxes_at` meets its contract. Assumes nothing.
 use Rattle.planread.proofs.Fields.{boxes-are}
 use Rattle.planread.proofs.boxes_at.Goals as goal
 

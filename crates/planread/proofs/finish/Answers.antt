@@ -1,4 +1,4 @@
--- What the check does not find by itself of `planread::finish`. Assumes nothing.
+-- `planread::finish` meets its contract. Assumes nothing.
 use mathlib.Core.Path.{◌≡◌}
 use native.Mathlib.Omega.{arith}
 use lib.ListN.{length, drop, length-drop}

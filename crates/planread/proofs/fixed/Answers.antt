@@ -1,4 +1,4 @@
--- What the check does not find by itself of `planread::fixed`. Assumes nothing.
+-- `planread::fixed` meets its contract. Assumes nothing.
 use mathlib.Core.Path.{sym, ◌∙◌}
 use native.Mathlib.Omega.{arith}
 use Rattle.planread.proofs.Turns.{version-room, version-broken, version-on, version-refused}

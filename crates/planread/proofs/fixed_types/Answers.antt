@@ -1,4 +1,4 @@
--- What the check does not find by itself of `planread::fixed_types`. Assumes nothing.
+-- `planread::fixed_types` meets its contract. Assumes nothing.
 use mathlib.Core.Path.{sym, ◌∙◌}
 use native.Mathlib.Omega.{arith}
 use Rattle.typeset.proofs.Bools.{passed, failed}

@@ -1,4 +1,4 @@
--- What the check does not find by itself of `planread::header`. Assumes nothing.
+-- `planread::header` meets its contract. Assumes nothing.
 use mathlib.Core.Path.{sym, ◌∙◌}
 use Rattle.typeset.proofs.Bools.{passed, failed}
 use Rattle.planread.proofs.Fields.{header-cut, header-tag, header-many, header-long, header-body, header-whole}

@@ -1,4 +1,4 @@
--- What the check does not find by itself of `planread::order_at`. Assumes nothing.
+-- `planread::order_at` meets its contract. Assumes nothing.
 use mathlib.Core.List.{append-nil}
 use mathlib.Core.Path.{◌≡◌, sym, ◌∙◌}
 use native.Mathlib.Omega.{arith}

@@ -1,4 +1,4 @@
--- What the check does not find by itself of `planread::order_at`. Assumes nothing.
+-- `planread::order_at` meets its contract. The loop's invariant looks forward: what is still to be stored gives the whole result. Assumes nothing.
 use mathlib.Core.Path.{◌≡◌}
 use Prim.Native.Nat.{◌≤◌}
 use lib.ListN.{drop}

@@ -1,4 +1,4 @@
--- What the check does not find by itself of `planread::pass_end`. Assumes nothing.
+-- `planread::pass_end` meets its contract. Assumes nothing.
 use mathlib.Core.Path.{◌≡◌, refl}
 use native.Mathlib.Omega.{arith}
 use lib.ListN.{length, drop, length-drop}

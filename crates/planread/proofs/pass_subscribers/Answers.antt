@@ -1,4 +1,4 @@
--- What the check does not find by itself of `planread::pass_subscribers`. Assumes nothing.
+-- `planread::pass_subscribers` meets its contract. Assumes nothing.
 use Prim.Native.Nat.{◌-◌, ◌+◌, ◌/◌}
 use mathlib.Core.List.{[]}
 use lib.ListN.{length, drop}

@@ -1,4 +1,4 @@
--- What the check does not find by itself of `planread::pass_subscribers`. Assumes nothing.
+-- `planread::pass_subscribers` meets its contract. The loop's invariant looks forward, as where the subscribers are kept. Assumes nothing.
 use Prim.Native.Nat.{ℕ, ◌-◌}
 use mathlib.Core.List.{List}
 use Prim.Native.Nat.{◌-◌}

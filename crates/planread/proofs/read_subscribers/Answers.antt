@@ -1,4 +1,4 @@
--- What the check does not find by itself of `planread::read_subscribers`. Assumes nothing.
+-- `planread::read_subscribers` meets its contract. Assumes nothing.
 use Prim.Native.Nat.{◌-◌, ◌+◌, ◌/◌}
 use lib.ListN.{length, drop}
 use Rattle.plan.specs.declared.Subscriber.{Subscriber}

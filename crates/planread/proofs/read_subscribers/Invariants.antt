@@ -1,4 +1,4 @@
--- What the check does not find by itself of `planread::read_subscribers`. Assumes nothing.
+-- `planread::read_subscribers` meets its contract. The loop's invariant looks forward: reading on from where it is gives the whole result. Assumes nothing.
 use Prim.Native.Nat.{◌-◌}
 use Prim.Native.Nat.{◌-◌}
 use Rattle.planread.proofs.Going.{Going}

@@ -1,4 +1,4 @@
--- What the check does not find by itself of `planread::sighted`. Assumes nothing.
+-- `planread::sighted` meets its contract. Assumes nothing.
 use mathlib.Core.Path.{sym, ◌∙◌}
 use Rattle.planread.proofs.Passing.{sighted-refused}
 use Rattle.planread.proofs.sighted.Goals as goal

@@ -1,4 +1,4 @@
--- What the check does not find by itself of `planread::types_at`. Assumes nothing.
+-- `planread::types_at` meets its contract. Assumes nothing.
 use Rattle.planread.proofs.Fields.{types-at}
 use Rattle.planread.proofs.types_at.Goals as goal
 

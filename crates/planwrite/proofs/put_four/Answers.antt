@@ -1,4 +1,4 @@
--- What the check does not find by itself of `planwrite::put_four`. Assumes nothing.
+-- `planwrite::put_four` meets its contract. Assumes nothing.
 use mathlib.Core.Path.{refl}
 use Prim.Native.Nat.{◌+◌, ◌/◌}
 use Rattle.planbytes.specs.Numbers.{high}

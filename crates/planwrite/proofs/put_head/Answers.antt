@@ -1,4 +1,4 @@
--- What the check does not find by itself of `planwrite::put_head`. Assumes nothing.
+-- `planwrite::put_head` meets its contract. Assumes nothing.
 use Rattle.planwrite.proofs.Puts.{head-put}
 use Rattle.planwrite.proofs.Puts.{head-put}
 use Rattle.planwrite.proofs.put_head.Goals as goal

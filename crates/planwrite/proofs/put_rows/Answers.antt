@@ -1,4 +1,4 @@
--- What the check does not find by itself of `planwrite::put_rows`. Assumes nothing.
+-- `planwrite::put_rows` meets its contract. Assumes nothing.
 use mathlib.Core.Path.{◌≡◌, refl, sym, ap, ◌∙◌}
 use native.Mathlib.Omega.{arith}
 use borrow.Author.Rules.{rules}

@@ -1,4 +1,4 @@
--- What the check does not find by itself of `planwrite::put_rows`. Assumes nothing.
+-- `planwrite::put_rows` meets its contract. The loop's invariant looks forward: what is still to be put gives the whole result. Assumes nothing.
 use mathlib.Core.Path.{◌≡◌}
 use Prim.Native.Nat.{◌≤◌, ◌+◌, ◌*◌}
 use lib.ListN.{length, drop}

@@ -1,4 +1,4 @@
--- What the check does not find by itself of `planwrite::put_sets`. Assumes nothing.
+-- `planwrite::put_sets` meets its contract. Assumes nothing.
 use mathlib.Core.Path.{refl}
 use mathlib.Core.List.{◌++◌}
 use Prim.Native.Nat.{◌+◌}

@@ -1,4 +1,4 @@
--- What the check does not find by itself of `planwrite::put_subscribers`. Assumes nothing.
+-- `planwrite::put_subscribers` meets its contract. The loop's invariant looks forward: what is still to come gives the whole result. Assumes nothing.
 use mathlib.Core.Path.{◌≡◌}
 use mathlib.Core.Bool.{cond}
 use Prim.Native.Nat.{◌≤◌, ◌+◌, ◌*◌}

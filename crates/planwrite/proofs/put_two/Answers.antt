@@ -1,4 +1,4 @@
--- What the check does not find by itself of `planwrite::put_two`. Assumes nothing.
+-- `planwrite::put_two` meets its contract. Assumes nothing.
 use native.Mathlib.Omega.{arith}
 use lib.ListN.{length-set}
 use native.Mathlib.Numerals.{add-one}

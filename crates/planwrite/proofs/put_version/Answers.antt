@@ -1,4 +1,4 @@
--- What the check does not find by itself of `planwrite::put_version`. Assumes nothing.
+-- `planwrite::put_version` meets its contract. Assumes nothing.
 use mathlib.Core.Path.{refl}
 use mathlib.Core.List.{◌++◌}
 use Rattle.planbytes.specs.Numbers.{high}

@@ -1,4 +1,4 @@
--- What the check does not find by itself of `planwrite::write_tested`. Assumes nothing.
+-- `planwrite::write_tested` meets its contract. Assumes nothing.
 use mathlib.Core.Path.{◌≡◌, refl, ap}
 use mathlib.Core.Bool.{true, false}
 use native.Mathlib.Omega.{arith}

@@ -1,4 +1,4 @@
--- What the check does not find by itself of `setup::blank_setup`. Assumes nothing.
+-- `setup::blank_setup` meets its contract. Assumes nothing.
 use Rattle.setup.specs.Setups.{blank}
 use Rattle.setup.proofs.blank_setup.Goals as goal
 

@@ -1,4 +1,4 @@
--- What the check does not find by itself of `setup::dial`. Assumes nothing.
+-- `setup::dial` meets its contract. Assumes nothing.
 use mathlib.Core.Path.{sym, ◌∙◌}
 use Rattle.setup.specs.Dialling.{dialled}
 use Rattle.setup.proofs.Stored.{first-32}

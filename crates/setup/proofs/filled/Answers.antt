@@ -1,4 +1,4 @@
--- What the check does not find by itself of `setup::filled`. Assumes nothing.
+-- `setup::filled` meets its contract. Assumes nothing.
 use mathlib.Core.Path.{◌≡◌, sym, ◌∙◌}
 use lib.ListN.{length}
 use Rattle.setup.proofs.Stored.{onward-next, onward-done, onward-padded}

@@ -1,4 +1,4 @@
--- What the check does not find by itself of `setup::filled`. Assumes nothing.
+-- `setup::filled` meets its contract. The loop's invariant looks forward: what is left of the bytes, stored from place i on, gives the whole result. Assumes nothing.
 use mathlib.Core.Path.{◌≡◌}
 use lib.ListN.{take}
 use Rattle.setup.specs.Dialling.{padded}

@@ -1,4 +1,4 @@
--- What the check does not find by itself of `setup::kept_list`. Assumes nothing.
+-- `setup::kept_list` meets its contract. Assumes nothing.
 use mathlib.Core.Path.{◌≡◌, ap, ◌∙◌}
 use native.Mathlib.Omega.{arith}
 use lib.ListN.{length, length-take}

@@ -1,4 +1,4 @@
--- What the check does not find by itself of `setup::legal_dialled`. Assumes nothing.
+-- `setup::legal_dialled` meets its contract. The loop's invariant: each place passed has a symbol. Assumes nothing.
 use mathlib.Core.Path.{◌≡◌}
 use mathlib.Core.Bool.{true}
 use Rattle.typeset.specs.Sets.{every}

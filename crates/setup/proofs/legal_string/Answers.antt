@@ -1,4 +1,4 @@
--- What the check does not find by itself of `setup::legal_string`. Assumes nothing.
+-- `setup::legal_string` meets its contract. Assumes nothing.
 use mathlib.Core.Path.{◌≡◌, sym}
 use Rattle.typeset.proofs.Bools.{passed, failed}
 use Rattle.typeset.proofs.Below.{every-none, every_more, every-no}

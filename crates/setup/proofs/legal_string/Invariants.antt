@@ -1,4 +1,4 @@
--- What the check does not find by itself of `setup::legal_string`. Assumes nothing.
+-- `setup::legal_string` meets its contract. The loop's invariant: each byte passed is a symbol. Assumes nothing.
 use mathlib.Core.Path.{◌≡◌}
 use mathlib.Core.Bool.{true}
 use Rattle.typeset.specs.Sets.{every}

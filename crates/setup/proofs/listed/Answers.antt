@@ -1,4 +1,4 @@
--- What the check does not find by itself of `setup::listed`. Assumes nothing.
+-- `setup::listed` meets its contract. Assumes nothing.
 use mathlib.Core.Path.{sym, ◌∙◌}
 use Rattle.zone.specs.Order.{held}
 use Rattle.setup.specs.Dialling.{padded}

@@ -1,4 +1,4 @@
--- What the check does not find by itself of `teaching::source_rows`. Assumes nothing.
+-- `teaching::source_rows` meets its contract. Assumes nothing.
 use mathlib.Core.Path.{refl}
 use Rattle.teaching.specs.Teaching.{source_rows}
 use Rattle.teaching.proofs.source_rows.Goals as goal

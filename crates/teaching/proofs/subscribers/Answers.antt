@@ -1,4 +1,4 @@
--- What the check does not find by itself of `teaching::subscribers`. Assumes nothing.
+-- `teaching::subscribers` meets its contract. Assumes nothing.
 use mathlib.Core.List.{◌∷◌}
 use lib.ListN.{replicate}
 use Rattle.teaching.specs.Teaching.{unused, subscribers}

@@ -1,4 +1,4 @@
--- What the check does not find by itself of `teaching::target_rows`. Assumes nothing.
+-- `teaching::target_rows` meets its contract. Assumes nothing.
 use mathlib.Core.Path.{refl}
 use Rattle.teaching.specs.Teaching.{target_rows}
 use Rattle.teaching.proofs.target_rows.Goals as goal

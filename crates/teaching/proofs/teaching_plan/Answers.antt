@@ -1,4 +1,4 @@
--- What the check does not find by itself of `teaching::teaching_plan`. Assumes nothing.
+-- `teaching::teaching_plan` meets its contract. Assumes nothing.
 use Rattle.teaching.specs.Teaching.{teaching}
 use Rattle.teaching.proofs.teaching_plan.Goals as goal
 

@@ -1,4 +1,4 @@
--- What the check does not find by itself of `zone::next`. Assumes nothing.
+-- `zone::next` meets its contract. Assumes nothing.
 use mathlib.Core.Path.{sym, ◌∙◌, ap}
 use borrow.Author.Tests.{ne_eqb}
 use Rattle.typeset.specs.Sets.{lowest}

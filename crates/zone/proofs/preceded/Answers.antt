@@ -1,4 +1,4 @@
--- What the check does not find by itself of `zone::preceded`. Assumes nothing.
+-- `zone::preceded` meets its contract. Assumes nothing.
 use native.Mathlib.Omega.{arith}
 use Rattle.typeset.proofs.Laws.{join-lt, without-lt}
 use Rattle.typeset.proofs.Taken.{taken-below, taken-has, taken-less}

@@ -1,4 +1,4 @@
--- What the check does not find by itself of `zone::preceded`. Assumes nothing.
+-- `zone::preceded` meets its contract. The invariant says, of each type below 32, that a type of the set precedes it exactly where it was found or a type of the rest precedes it. Assumes nothing.
 use Prim.Native.Nat.{◌<◌, ◌^◌}
 use Rattle.typeset.specs.Sets.{size}
 use Rattle.zone.proofs.Rows.{Found}

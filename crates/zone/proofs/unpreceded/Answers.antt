@@ -1,4 +1,4 @@
--- What the check does not find by itself of `zone::unpreceded`. Assumes nothing.
+-- `zone::unpreceded` meets its contract. Assumes nothing.
 use mathlib.Core.Path.{◌∙◌, ap}
 use Rattle.typeset.specs.Sets.{minus}
 use Rattle.zone.specs.Order.{unpreceded}

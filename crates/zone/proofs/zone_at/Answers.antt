@@ -1,4 +1,4 @@
--- What the check does not find by itself of `zone::zone_at`. Assumes nothing.
+-- `zone::zone_at` meets its contract. Assumes nothing.
 use mathlib.Core.Path.{sym, ◌∙◌}
 use native.Mathlib.Omega.{arith}
 use Rattle.plan.proofs.Lookup.{found_below}

@@ -1,4 +1,4 @@
--- What the check does not find by itself of `zone::zone_for`. Assumes nothing.
+-- `zone::zone_for` meets its contract. Assumes nothing.
 use mathlib.Core.Path.{sym, ◌∙◌}
 use Rattle.plan.specs.Sound.{verdict}
 use Rattle.zone.specs.Answer.{answer}

@@ -1,4 +1,4 @@
--- What the check does not find by itself of `zone::zone_of`. Assumes nothing.
+-- `zone::zone_of` meets its contract. Assumes nothing.
 use mathlib.Core.Path.{refl, sym, ◌∙◌}
 use native.Mathlib.Omega.{arith}
 use Rattle.typeset.proofs.Laws.{size-le, without-lt}

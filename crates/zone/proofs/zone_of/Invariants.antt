@@ -1,4 +1,4 @@
--- What the check does not find by itself of `zone::zone_of`. Assumes nothing.
+-- `zone::zone_of` meets its contract. The loop's invariant looks forward: the zone of what is left, stored from place n on, gives the whole result. Assumes nothing.
 use mathlib.Core.Path.{◌≡◌}
 use Prim.Native.Nat.{◌+◌, ◌^◌, ◌<◌}
 use lib.ListN.{replicate}
