@@ -112,7 +112,7 @@ fn answered(line: &[u8], room: &mut [u8]) -> usize
     console::within(n, room)
 }
 
-// As the program `desk` does it: of a line no more than 64 bytes are read. A folder can be opened, but an attempt to read of it fails, and then there is no line.
+// As the program `desk` does it: of a line no more than 64 bytes are read. A folder can be opened, but an attempt to read it fails, and then there is no line.
 fn answered_to(input: &mut impl Read, room: &mut [u8]) -> usize
     ensures { IsPrefixLen result room.new }
 {

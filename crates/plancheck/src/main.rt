@@ -30,7 +30,7 @@ fn is_dash(name: &[u8]) -> bool {
     }
 }
 
-// The first bytes of a file, and how many. A folder can be opened, but an attempt to read of it fails.
+// The first bytes of a file, and how many. A folder can be opened, but an attempt to read it fails.
 fn read_file(rt: &impl Files, name: &[u8], file: &mut [u8]) -> io::Result<usize>
     ensures { IfOk result (λ n. IsPrefixLen n file.new) }
 {

@@ -55,7 +55,7 @@ fn answer(rt: &impl Print, file: &[u8], of_type: u32) -> io::Result<()> {
     }
 }
 
-// The first bytes of a file, and how many. A folder can be opened, but an attempt to read of it fails.
+// The first bytes of a file, and how many. A folder can be opened, but an attempt to read it fails.
 fn read_file(rt: &impl Files, name: &[u8], file: &mut [u8]) -> io::Result<usize>
     ensures { IfOk result (λ n. IsPrefixLen n file.new) }
 {
