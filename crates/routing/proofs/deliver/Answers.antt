@@ -3,7 +3,6 @@ use mathlib.Core.Path.{refl}
 use Rattle.routing.specs.Routing.{answered}
 use Rattle.routing.specs.Places.{delivered}
 use Rattle.routing.proofs.Parts.{tail-length}
-use borrow.Author.Rules.{rules}
 use Rattle.routing.proofs.deliver.Goals as goal
 
 pub returns : goal.returns

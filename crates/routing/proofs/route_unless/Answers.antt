@@ -1,5 +1,4 @@
 -- What the check does not find by itself of `routing::route_unless`. Assumes nothing.
-use borrow.Author.Rules.{rules}
 use Rattle.routing.proofs.route_unless.Goals as goal
 
 pub returns : goal.returns

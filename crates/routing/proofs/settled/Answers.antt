@@ -3,7 +3,6 @@ use mathlib.Core.Path.{◌≡◌, refl}
 use Rattle.typeset.proofs.Bools.{passed, failed}
 use mathlib.Core.Bool.{true, false}
 use Rattle.routing.specs.Places.{settled_in}
-use borrow.Author.Rules.{rules}
 use Rattle.routing.proofs.settled.Goals as goal
 
 pub returns-then-not-kept : goal.returns-then-not-kept

@@ -2,7 +2,6 @@
 use Rattle.planbytes.specs.Numbers.{high}
 use Rattle.planbytes.specs.Format.{field}
 use Rattle.setupbytes.specs.Codec.{head_of}
-use borrow.Author.Rules.{rules}
 use Rattle.setupbytes.proofs.head_of.Goals as goal
 
 pub returns : goal.returns
