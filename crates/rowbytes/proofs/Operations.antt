@@ -1,22 +1,20 @@
 -- The theorems on the operations on lent bytes (specs/Operations.antt). Assumes nothing.
-use Rattle.std.proofs.Common.{◌≡◌, ℕ, ◌+◌, ◌-◌, ◌*◌, ◌/◌, ◌<◌, ◌≤◌, Bool, true, false, cond, not, ltb, ◌≢◌, List, [], ◌∷◌, ◌++◌, map, length, get_or, take, drop, set, replicate, sym, refl, ap, ◌∙◌, subst, ap₂, arith, length-drop, length-take-le, get_or-drop, get_or-take, ltb-false, ltb-true}
-use lib.Seq.{sets, set_out, set-get_or, length-sets}
+use Rattle.std.proofs.Common.{◌≡◌, ℕ, ◌+◌, ◌*◌, ◌<◌, ◌≤◌, Bool, true, false, cond, ltb, ◌≢◌, List, [], ◌∷◌, ◌++◌, map, length, get_or, take, drop, set, replicate, sym, refl, ap, ◌∙◌, subst, ap₂, arith, length-drop, length-take-le, get_or-drop, get_or-take, ltb-false, ltb-true}
+use lib.Seq.{sets, set_out, length-sets}
 use Rattle.refusal.specs.declared.Refusal.TheVariants.{NoSuchCall, RowTooLong}
 use Rattle.plan.specs.declared.Plan.{Plan}
 use Rattle.plan.specs.Sound.{sound}
 use Rattle.setup.specs.declared.Setup.{Setup}
 use Rattle.call.specs.declared.Call.{Call}
 use Rattle.call.specs.declared.Command.{Command}
-use Rattle.call.specs.Protocol.{step, cleared, is_free}
-use Rattle.call.specs.History.{accepted}
-use Rattle.call.specs.Row.{Reply, Turn, placed_at, says, Act, place, command, record_at, lowest_free, named, refuses, put, place_at, turn, turns, granted, doing, own}
+use Rattle.call.specs.Protocol.{step, cleared}
+use Rattle.call.specs.Row.{Reply, Turn, placed_at, says, Act, place, record_at, named, refuses, put, turn, turns, granted, doing, own}
 use Rattle.routing.specs.declared.Outcome.{Outcome}
-use Rattle.teardown.specs.Teardown.{CallIn, FirstTeardownIn}
+use Rattle.teardown.specs.Teardown.{CallIn}
 use Rattle.teardown.proofs.Media.{none_twice}
 use Rattle.teardown.proofs.Theorem.{never_unfit}
 use Rattle.teardown.proofs.Row.{reached_by_name, no_deadlock_in_row, in_order_in_row, demand3_in_row}
-use Rattle.placing.specs.declared.Placed.{Placed}
-use Rattle.placing.specs.Rows.{outcome_in, turned, answered, placed_in, row_after}
+use Rattle.placing.specs.Rows.{outcome_in, turned, row_after}
 use Rattle.placing.specs.Operations.{Operation, placing, commanding, row_of, rows_of, number_for, PortOperation, placing_there, commanding_it, port_of, ports_of, port_number, Use, operating, lending, clearing, used, HeadsFit, PortUse, operating_it, clearing_it, port_used, act_by, acts_of, CallPlaced}
 use Rattle.placing.proofs.Settles.{routing-to, refusing-by, came-by, places}
 use Rattle.placing.proofs.Operations.{as-acts, never17, port-never17, never-unfit, port-reached, port-no-deadlock, port-in-order, port-demand3}
@@ -24,7 +22,7 @@ use Rattle.recordbytes.specs.Records.{call_at}
 use Rattle.recordbytes.specs.Steps.{Outside, in_front, behind, step_at}
 use Rattle.recordbytes.proofs.Places as stores
 use Rattle.recordbytes.proofs.AsStep.{call_same, as_step, only-the-record}
-use Rattle.rowbytes.specs.Rows.{records_in, row_in, cleared_in, commanded_in, placed_bytes, placed_by}
+use Rattle.rowbytes.specs.Rows.{records_in, row_in, cleared_in, placed_bytes, placed_by}
 use Rattle.rowbytes.specs.Operations.{bytes_of, port_bytes_of, bytes_lent, bytes_used, port_bytes_used, AsRow, AsPort, BytesNever17, BytesFit, CallInBytes, bytes_done, BytesReached, BytesNoDeadlock, BytesInOrder, BytesDemand3, BytesNoneTwice, BytesNeverUnfit, port_bytes_done, PortBytesReached, PortBytesNoDeadlock, PortBytesInOrder, PortBytesDemand3, PortBytesNoneTwice, PortBytesNeverUnfit}
 use Rattle.rowbytes.proofs.Rows.{row-length, inside, record-in, row-changed, from-0, row-cleared, cleared-length}
 use Rattle.rowbytes.proofs.Turns.{row-granted, named-inside, not-routed, row-placed, one-record, one_left}

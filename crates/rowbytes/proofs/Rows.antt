@@ -1,5 +1,5 @@
 -- The records of some bytes: how many, which, the lowest free one, and what a command, a call placed or clearing make of them. Assumes nothing.
-use Rattle.std.proofs.Common.{◌≡◌, ℕ, zero, suc, ◌+◌, ◌-◌, ◌*◌, ◌/◌, ◌%◌, ◌<◌, ◌≤◌, Bool, true, false, cond, ◌&&◌, eqb, ltb, List, [], ◌∷◌, ◌++◌, length, get_or, drop, set, replicate, sym, refl, ap, ◌∙◌, subst, ap₂, append_assoc, le_of_suc-le-suc, not-suc-le-zero, add-one, arith, lit≤, length-append, length-drop, drop-cons, set-set, le-ltb, lt-ltb}
+use Rattle.std.proofs.Common.{◌≡◌, ℕ, zero, suc, ◌+◌, ◌-◌, ◌*◌, ◌/◌, ◌%◌, ◌<◌, ◌≤◌, Bool, true, false, cond, ◌&&◌, eqb, List, [], ◌∷◌, ◌++◌, length, get_or, drop, set, replicate, sym, refl, ap, ◌∙◌, subst, ap₂, append_assoc, le_of_suc-le-suc, not-suc-le-zero, add-one, arith, lit≤, length-append, length-drop, drop-cons, set-set, le-ltb, lt-ltb}
 use lib.ListN.{length-replicate, get_or-replicate, replicate-append-replicate, get_or-eq_default, get_or-append}
 use lib.Seq.{sets, length-sets, set_comm, set_at}
 use Rattle.ends.specs.declared.State.TheVariants.{Idle, Requesting, Waiting, Linked, Unlinking}

@@ -1,6 +1,7 @@
 // A row of calls, or a port's one, in lent bytes: 614 to a record, for programs in other languages (01 'Calls'). What a record does with a command is in `recordbytes`, and placing decides by its functions of values; here a
 // record is found, and a call placed in it. Nothing else is touched, and no refusal changes a byte.
 #![tactic(auto)]
+
 ghost use Rattle.std.specs.Prelude.{◌≡◌, ◌+◌, ◌<◌, ◌≤◌, true, [], ◌∷◌, length, replicate};
 ghost use Rattle.std.proofs.lemmas.List.Edits.{sets};
 ghost use Rattle.plan.specs.declared.Plan.{Plan};

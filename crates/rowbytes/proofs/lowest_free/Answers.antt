@@ -1,0 +1,16 @@
+-- What the check does not find by itself of `rowbytes::lowest_free`. Assumes nothing.
+use Rattle.std.proofs.Common.{sym, ◌∙◌, rules}
+use Rattle.rowbytes.proofs.Rows.{free-start, free-found, free-next, free-end}
+use Rattle.rowbytes.proofs.lowest_free.Goals as goal
+
+pub loop-i-init : goal.loop-i-init
+loop-i-init c = (search rules, free-start c.args.row.now)
+
+pub returns-then-free_in : goal.returns-then-free_in
+returns-then-free_in c = sym (free-found c.args.row.now c.loop-i.i (search rules) (sym c.free_in.ensures ∙ c.if-free_in.true)) ∙ c.loop-i.invariant.1
+
+pub loop-i-preserved : goal.loop-i-preserved
+loop-i-preserved c = (search rules, sym (free-next c.args.row.now c.loop-i.i (search rules) (sym c.free_in.ensures ∙ c.if-free_in.false)) ∙ c.loop-i.invariant.1)
+
+pub returns : goal.returns
+returns c = sym (free-end c.args.row.now c.loop-i.i (search rules)) ∙ c.loop-i.invariant.1

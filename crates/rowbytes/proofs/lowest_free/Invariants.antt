@@ -1,0 +1,11 @@
+-- What the check does not find by itself of `rowbytes::lowest_free`. Assumes nothing.
+use Rattle.std.proofs.Common.{◌≡◌, ◌+◌, ◌-◌, ◌*◌, ◌≤◌}
+use Rattle.call.specs.Row.{lowest_free}
+use Rattle.rowbytes.specs.Rows.{records_in, records, row_in}
+use Rattle.rowbytes.proofs.lowest_free.Given as goal
+
+abbrev pub invariant-loop-i : goal.invariant-loop-i
+invariant-loop-i l = (l.i ≤ records_in l.row) × (l.i + lowest_free (records (records_in l.row - l.i) l.row (614 * l.i)) ≡ lowest_free (row_in l.row))
+
+abbrev pub decreases-loop-i : goal.decreases-loop-i
+decreases-loop-i l = records_in l.row - l.i
