@@ -1,28 +1,27 @@
 -- Of a line the first 43 bytes decide what the desk answers: 9 digits, a space and 33 symbols, which are too many. So a program that reads no more than these answers as if it had read the whole line. Assumes nothing.
-use Prim.Native.Nat.{ℕ, ◌+◌, ◌-◌, ◌≤◌, ◌<◌}
-use mathlib.Core.Path.{◌≡◌, refl, sym, ap, ◌∙◌, subst}
+use Prim.Native.Nat.{ℕ, ◌+◌, ◌≤◌, ◌<◌}
+use mathlib.Core.Path.{◌≡◌, refl, sym, ap, ◌∙◌}
 use mathlib.Core.Bool.{Bool, true, false, not, ◌&&◌, cond}
-use mathlib.Core.Logic.{◌⊎◌, inl, inr, ⊎_elim}
+use mathlib.Core.Logic.{⊎_elim}
 use mathlib.Core.List.{List}
 use native.Mathlib.Omega.{arith}
 use lib.Dec.{eqb, ltb, leb}
-use lib.ListN.{length, get_or, take, drop, length-drop}
+use lib.ListN.{length, get_or, take, length-drop}
 use lib.Seq.{take_all, take-take, get_or-take, length-take-le}
 use borrow.Author.Tests.{lt-ltb, lt-leb, leb-true, ltb-true, ltb-false}
-use Rattle.typeset.specs.Sets.{every}
-use Rattle.typeset.proofs.Bools.{yes_or_no, clash, fails, and_left, and_right}
-use Rattle.typeset.proofs.Below.{least-le, least-has, least-min, least-at-most, least-found}
+use Rattle.typeset.proofs.Bools.{yes_or_no, fails, and_left, and_right}
+use Rattle.typeset.proofs.Below.{least-has, least-min, least-at-most, least-found}
 use Rattle.refusal.specs.declared.Refusal.TheVariants.{RuleBroken, NoSuchType, NotForThisBox, WrongAddress, BadString}
 use Rattle.plan.specs.declared.Plan.{Plan}
 use Rattle.plan.specs.Sound.{sound}
 use Rattle.setup.specs.declared.Setup.{Setup}
-use Rattle.setup.specs.Dialling.{symbol, legal_string}
+use Rattle.setup.specs.Dialling.{legal_string}
 use Rattle.embedded.specs.Embedded.{all_digits, writes_address, number_from}
 use Rattle.making.specs.declared.Maker.{Maker}
 use Rattle.making.specs.declared.Maker.TheVariants.{Line}
 use Rattle.making.specs.declared.Answer.{Answer}
 use Rattle.making.specs.declared.Outcome.TheVariants.{Refused}
-use Rattle.making.specs.Making.{box_address, type_exists, makes_new, address_held, unless, new_setup, new_outcome, new_outcome_by, answered, new_answer}
+use Rattle.making.specs.Making.{box_address, type_exists, makes_new, address_held, unless, new_setup, new_outcome_by, answered, new_answer}
 use Rattle.journey.specs.Desk.{space_in, address_text, string_text, readable, refused_text, told, desk_text}
 use Rattle.journey.proofs.Desks.{space-within}
 

@@ -1,18 +1,17 @@
 -- What the desk writes as a number is read as that number: `decimal` (text) against `number_from` (embedded), for any number below 10,000,000,000; all of it digits, and no zero in front. Assumes nothing.
 use Prim.Native.Nat.{ℕ, zero, suc, ◌+◌, ◌-◌, ◌*◌, ◌/◌, ◌%◌, ◌≤◌, ◌<◌}
-use mathlib.Core.Path.{◌≡◌, refl, sym, ap, ◌∙◌, subst}
-use mathlib.Core.Bool.{Bool, true, false, ◌&&◌}
-use mathlib.Core.Logic.{◌⊎◌, ⊎_elim}
-use mathlib.Core.List.{List, [], ◌∷◌}
+use mathlib.Core.Path.{◌≡◌, refl, sym, ◌∙◌, subst}
+use mathlib.Core.Bool.{true, false}
+use mathlib.Core.Logic.{⊎_elim}
 use native.Mathlib.Omega.{arith}
 use native.Mathlib.Nat.{mod-eq_of_lt}
 use native.Mathlib.Numerals.{add-one}
-use lib.Dec.{ltb, leb}
-use lib.ListN.{length, get_or}
+use lib.Dec.{ltb}
+use lib.ListN.{get_or}
 use borrow.Author.Tests.{ltb-true, ltb-false, le-leb}
 use Rattle.typeset.specs.Sets.{every, least}
 use Rattle.typeset.proofs.Bools.{yes_or_no, and-make}
-use Rattle.typeset.proofs.Below.{least-le, least-has, least-min, every-none}
+use Rattle.typeset.proofs.Below.{least-le, least-has, least-min}
 use Rattle.embedded.specs.Embedded.{digit, all_digits, number_from}
 use Rattle.embedded.proofs.Digits.{ten}
 use Rattle.text.specs.Decimal.{tens, size, last_digits, decimal}

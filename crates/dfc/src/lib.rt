@@ -1,5 +1,6 @@
 // The core for programs in other languages: functions on numbers and lent bytes, over a plan file. The header is include/dfc.h.
 #![tactic(auto)]
+
 ghost use Rattle.std.specs.Prelude.{◌≡◌, ℕ, ◌≤◌, ◌<◌, length};
 ghost use Rattle.plan.specs.declared.Plan.{Plan};
 ghost use Rattle.plan.specs.Find.{seen};

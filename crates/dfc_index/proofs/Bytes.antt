@@ -1,17 +1,17 @@
 -- A plan file with other sets of one subscriber: eight bytes are others, all others stay. Assumes nothing.
 use mathlib.Core.Path.{◌≡◌, refl, sym, ap, ap₂, ◌∙◌}
 use mathlib.Core.List.{List, [], ◌∷◌, ◌++◌, append_assoc, append-nil}
-use Prim.Native.Nat.{ℕ, zero, suc, ◌+◌, ◌*◌, ◌-◌, ◌≤◌, ◌<◌}
+use Prim.Native.Nat.{ℕ, suc, ◌+◌, ◌*◌, ◌≤◌, ◌<◌}
 use native.Mathlib.Omega.{arith}
 use native.Mathlib.Numerals.{add-one}
-use borrow.Rule.Slice.PartMut.{mid_of, post_of, put_mid}
-use lib.ListN.{length, get_or, set, take, drop, length-append, length-take, length-drop, drop_of_length-le}
-use lib.Seq.{split_at, set_split, take-set-lt, take-take, get_or-take, take_at, drop_at, drop-drop, take-suc, take_all, take-length, take-append-le, drop-append-le}
+use borrow.Rule.Slice.PartMut.{post_of, put_mid}
+use lib.ListN.{length, take, drop, length-append, length-take, length-drop}
+use lib.Seq.{split_at, set_split, take-set-lt, take-take, get_or-take, take_at, drop_at, drop-drop, take-suc, take-append-le, drop-append-le}
 use Rattle.plan.specs.declared.Subscriber.{Subscriber}
 use Rattle.plan.specs.declared.Plan.{Plan}
 use Rattle.plan.specs.Parts.{nobody, at}
 use Rattle.planbytes.specs.Numbers.{high, row}
-use Rattle.planbytes.specs.Format.{field, fixed_of, subscriber_body, subscriber_fields, head_fields, end_field, bytes_of}
+use Rattle.planbytes.specs.Format.{field, subscriber_body, subscriber_fields, head_fields, end_field, bytes_of}
 use Rattle.planbytes.proofs.Lengths.{high-length, subscriber-length, head-length}
 use Rattle.index.specs.Index.{resubscribed, changed}
 use Rattle.dfc_index.specs.Steps.{sets_at, reset_bytes}
@@ -148,25 +148,16 @@ sets-next subs j h =
 
 -- ---- the file copied into the room, then eight bytes over it
 
-pub written_over : (file room whole part eight : List ℕ) (a source target : ℕ)
-    → whole ≡ take (length file) file ++ drop (length file) room → eight ≡ high 4 source ++ high 4 target
-    → part ≡ take (length eight) eight ++ drop (length eight) (mid_of a (length whole - a) whole)
-    → a + 8 ≤ length file → put_mid a (length whole - a) whole part ≡ reset_bytes a source target file ++ drop (length file) room
+pub written_over : (file room whole part eight : List ℕ) (a n source target : ℕ)
+    → whole ≡ file → part ≡ eight → eight ≡ high 4 source ++ high 4 target → n ≡ 8
+    → a + 8 ≤ length file → put_mid a n (whole ++ drop (length file) room) part ≡ reset_bytes a source target file ++ drop (length file) room
 unfolding reset_bytes
-written_over file room whole part eight a source target w e q h =
+written_over file room whole part eight a n source target w q e m h =
     let rest = drop (length file) room in
-    let is : whole ≡ file ++ drop (length file) room = w ∙ ap (λ (l : List ℕ). l ++ rest) (take-length file) in
-    let eights : length eight ≡ 8 = ap length e ∙ simp (length-append, high-length) refl in
-    let long : length whole ≡ length file + length (drop (length file) room) = ap length is ∙ length-append file (drop (length file) room) in
-    let front : take a whole ≡ take a file = ap (take a) is ∙ take-append-le a file rest (omega arith) in
-    let back : drop a whole ≡ drop a file ++ rest = ap (drop a) is ∙ drop-append-le a file rest (omega arith) in
-    let middle : mid_of a (length whole - a) whole ≡ drop a file ++ rest = take_all (length whole - a) (drop a whole) (omega (arith, length-drop a whole)) ∙ back in
-    let past : drop 8 (drop a file ++ rest) ≡ drop (a + 8) file ++ rest =
-    drop-append-le 8 (drop a file) rest (omega (arith, length-drop a file)) ∙ ap (λ (l : List ℕ). l ++ rest) (drop-drop 8 a file) in
-    let stored : part ≡ high 4 source ++ high 4 target ++ (drop (a + 8) file ++ rest) =
-    q ∙ ap₂ ◌++◌ (take-length eight ∙ e) (ap₂ drop eights middle ∙ past) in
-    let none : post_of a (length whole - a) whole ≡ [] = drop_of_length-le (drop a whole) {i = length whole - a} (omega (arith, length-drop a whole)) in
-    ap₂ (λ (x y : List ℕ). x ++ (y ++ post_of a (length whole - a) whole)) front stored
-    ∙ ap (λ (l : List ℕ). take a file ++ (high 4 source ++ high 4 target ++ (drop (a + 8) file ++ rest) ++ l)) none
-    ∙ ap (λ (l : List ℕ). take a file ++ l) (append-nil (high 4 source ++ high 4 target ++ (drop (a + 8) file ++ rest)) ∙ sym (append_assoc (high 4 source ++ high 4 target) (drop (a + 8) file) rest))
+    let front : take a (whole ++ rest) ≡ take a file = ap (λ (l : List ℕ). take a (l ++ rest)) w ∙ take-append-le a file rest (omega arith) in
+    let back : drop a (whole ++ rest) ≡ drop a file ++ rest = ap (λ (l : List ℕ). drop a (l ++ rest)) w ∙ drop-append-le a file rest (omega arith) in
+    let past : post_of a n (whole ++ rest) ≡ drop (a + 8) file ++ rest =
+    ap₂ drop m back ∙ drop-append-le 8 (drop a file) rest (omega (arith, length-drop a file)) ∙ ap (λ (l : List ℕ). l ++ rest) (drop-drop 8 a file) in
+    ap₂ ◌++◌ front (ap₂ ◌++◌ (q ∙ e) past)
+    ∙ ap (λ (l : List ℕ). take a file ++ l) (sym (append_assoc (high 4 source ++ high 4 target) (drop (a + 8) file) rest))
     ∙ sym (append_assoc (take a file) (high 4 source ++ high 4 target ++ drop (a + 8) file) rest)

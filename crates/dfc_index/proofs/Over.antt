@@ -1,10 +1,9 @@
 -- What the operations answer and leave, case by case. Assumes nothing.
-use mathlib.Core.Path.{◌≡◌, refl, sym, ap, ap₂, ◌∙◌}
-use mathlib.Core.Bool.{Bool, true, false, cond}
-use mathlib.Core.List.{List, [], ◌++◌}
+use mathlib.Core.Path.{◌≡◌, refl, sym, ap, ◌∙◌}
+use mathlib.Core.Bool.{Bool, true, false}
+use mathlib.Core.List.{List, ◌++◌}
 use Prim.Native.Nat.{ℕ, ◌+◌, ◌≤◌, ◌<◌}
 use native.Mathlib.Omega.{arith}
-use lib.Dec.{ltb}
 use lib.ListN.{length, drop}
 use borrow.Author.Tests.{lt-ltb, le-ltb}
 use Rattle.refusal.specs.declared.Refusal.{Refusal}
@@ -14,20 +13,19 @@ use Rattle.plan.specs.declared.Found.TheVariants.{At, Nothing}
 use Rattle.plan.specs.declared.Plan.{Plan}
 use Rattle.plan.specs.declared.Verdict.TheVariants.{Sound, Refused}
 use Rattle.plan.specs.Sound.{sound}
-use Rattle.plan.specs.Find.{used, lookup}
+use Rattle.plan.specs.Find.{lookup}
 use Rattle.plan.proofs.Lookup.{found-used}
 use Rattle.plan.proofs.Laws.{few, used_all}
 use Rattle.typeset.proofs.Bools.{clash}
 use Rattle.planbytes.specs.Numbers.{Below}
 use Rattle.planbytes.specs.Format.{bytes_of}
-use Rattle.planread.specs.declared.Reading.{Reading}
-use Rattle.planread.specs.Reading.{read_of, accepted}
+use Rattle.planread.specs.Reading.{read_of}
 use Rattle.planfile.proofs.Back.{File, back-and-there}
 use Rattle.planback.proofs.Again.{as-accepted}
 use Rattle.index.specs.declared.Indexed.{Indexed}
 use Rattle.index.specs.declared.Indexed.TheVariants.{Done, Refused as NotDone}
 use Rattle.index.specs.Index.{changed}
-use Rattle.index.specs.Said.{sets_fit, matches, said_found, said_sets, updated_by, plan_by, index_by, updated, plan_after, index_after}
+use Rattle.index.specs.Said.{sets_fit, matches, said_found, updated_by, plan_by, index_by, updated, plan_after, index_after}
 use Rattle.answers.specs.declared.Answer.{Answer}
 use Rattle.answers.specs.Said.{refusal, accepted as accept}
 use Rattle.dfc_index.specs.Files.{file_updated, index_updated, room_updated}

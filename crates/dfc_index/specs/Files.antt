@@ -3,7 +3,6 @@ use Rattle.std.specs.Prelude.{ℕ, Bool, cond, List, ◌++◌, eqb, ltb, length,
 use Rattle.refusal.specs.declared.Refusal.TheVariants.{RoomTooShort}
 use Rattle.plan.specs.declared.Region.{Region}
 use Rattle.plan.specs.declared.Region.TheVariants.{Source, Target}
-use Rattle.plan.specs.declared.Plan.{Plan}
 use Rattle.plan.specs.declared.Verdict.{Verdict}
 use Rattle.plan.specs.declared.Verdict.TheVariants.{Sound, Refused}
 use Rattle.planbytes.specs.Format.{bytes_of}

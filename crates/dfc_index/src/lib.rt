@@ -1,5 +1,6 @@
-// The index of a plan for programs in other languages: functions on numbers, lent bytes and lent rows, over a plan file. The header is include/dfc.h.
+// The index of a plan for programs in other languages: functions on numbers, lent bytes and lent rows, over a plan file. The header is include/dfc.h; the crate `dfc_index_c` makes the archive.
 #![tactic(auto)]
+
 ghost use Rattle.std.specs.Prelude.{◌≡◌, ◌++◌, ℕ, ◌+◌, ◌≤◌, ◌<◌, ◌^◌, length, take, drop};
 ghost use Rattle.planbytes.specs.Numbers.{Below, high};
 ghost use Rattle.planbytes.specs.Format.{field, subscriber_body};
@@ -147,8 +148,9 @@ fn write_changed(
 {
     let at = sets_at(subscribers, i);
     let eight = sets(source, target);
-    bytes::copy(file, room);
-    bytes::copy(&eight, &mut room[at..]);
+    let n = file.len();
+    room[..n].copy_from_slice(file);
+    room[at..at + 8].copy_from_slice(&eight);
 }
 
 // The place of the subscriber who has the address.

@@ -1,5 +1,6 @@
-// Operational data for programs in other languages: numbers and lent words, over a plan file. A box is named by its type and address, so that every operation works out by itself what is open to it. The header is include/dfc.h.
+// Operational data for programs in other languages: numbers and lent words, over a plan file. A box is named by its type and address, so that every operation works out by itself what is open to it. The header is include/dfc.h; the crate `dfc_store_c` makes the archive.
 #![tactic(auto)]
+
 ghost use Rattle.std.specs.Prelude.{◌≡◌};
 ghost use Rattle.store.specs.Operations.{read, write, delete};
 ghost use Rattle.dfc_store.specs.Said.{data_said, known_in, told_of, rows_told_of};

@@ -1,8 +1,8 @@
 -- Digits and the numbers that they write, as the loop of `number` goes through them; and a feature code at the front of a string. Assumes nothing.
-use mathlib.Core.Path.{◌≡◌, refl, sym, ap, ◌∙◌}
+use mathlib.Core.Path.{◌≡◌, ap}
 use mathlib.Core.Bool.{Bool, true, false, not, ◌&&◌, and-false, false≢true}
 use mathlib.Core.List.{List, [], ◌∷◌}
-use Prim.Native.Nat.{ℕ, zero, suc, ◌+◌, ◌-◌, ◌*◌, ◌≤◌, ◌<◌, suc-le-suc}
+use Prim.Native.Nat.{ℕ, zero, suc, ◌+◌, ◌-◌, ◌*◌, ◌≤◌, ◌<◌}
 use native.Mathlib.Nat.{not-suc-le-zero, le_of_suc-le-suc}
 use native.Mathlib.Numerals.{add-one}
 use native.Mathlib.Omega.{arith}
@@ -10,7 +10,6 @@ use lib.Dec.{eqb, leb}
 use lib.ListN.{length, get_or, take, drop, length-drop, get_or-eq_default}
 use lib.Seq.{drop-cons, drop-length, take_all}
 use borrow.Author.Tests.{leb-true}
-use Rattle.typeset.specs.Sets.{every}
 use Rattle.typeset.proofs.Bools.{yes_or_no, clash, and_left, and_right, not-true}
 use mathlib.Core.Logic.{⊎_elim}
 use Rattle.typeset.proofs.Below.{every-at}

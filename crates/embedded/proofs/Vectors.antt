@@ -1,9 +1,7 @@
 -- P3 and P4, and more strings, computed from the definition. Assumes nothing.
 use mathlib.Core.Path.{◌≡◌, refl}
-use mathlib.Core.List.{List, [], ◌∷◌, map}
-use Prim.Native.Nat.{ℕ}
+use mathlib.Core.List.{[], ◌∷◌, map}
 use Rattle.typeset.specs.Sets.{every}
-use Rattle.embedded.specs.declared.Dials.{Dials}
 use Rattle.embedded.specs.declared.Dials.TheVariants.{Nobody, Address}
 use Rattle.embedded.specs.Embedded.{digit, all_digits, number_from, coded, skipped, after_code, writes_address, embedded}
 

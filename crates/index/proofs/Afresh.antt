@@ -2,12 +2,11 @@
 use mathlib.Core.Path.{◌≡◌, refl, sym, ap, ◌∙◌}
 use mathlib.Core.Bool.{Bool, true, false, cond}
 use mathlib.Core.List.{List, []}
-use Prim.Native.Nat.{ℕ, ◌≤◌, ◌<◌}
+use Prim.Native.Nat.{ℕ, ◌<◌}
 use native.Mathlib.Omega.{arith}
 use lib.ListN.{length, get_or}
 use Rattle.typeset.specs.Sets.{has}
 use Rattle.plan.specs.declared.Region.{Region}
-use Rattle.plan.specs.declared.Region.TheVariants.{Source, Target}
 use Rattle.plan.specs.declared.Plan.{Plan}
 use Rattle.plan.specs.declared.Found.{Found}
 use Rattle.plan.specs.declared.Found.TheVariants.{At, Nothing}
@@ -16,9 +15,9 @@ use Rattle.plan.specs.Sound.{sound}
 use Rattle.plan.specs.Find.{used, lookup}
 use Rattle.plan.proofs.Lookup.{found-used}
 use Rattle.index.specs.declared.Indexed.TheVariants.{Done}
-use Rattle.index.specs.Index.{row, list_of, tab, index_of, subscribers_to, row_for, resubscribed, changed}
+use Rattle.index.specs.Index.{row, list_of, index_of, subscribers_to, row_for, resubscribed, changed}
 use Rattle.index.specs.Said.{sets_fit, matches, said_found, left, updated_by, updated, plan_after, index_after}
-use Rattle.index.specs.Steps.{wants, members}
+use Rattle.index.specs.Steps.{wants}
 use Rattle.index.proofs.Rows.{tab-at}
 use Rattle.index.proofs.Built.{list-is}
 use Rattle.index.proofs.Moved.{Shaped, matches-is, members_kept, used_le}

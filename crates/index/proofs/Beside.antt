@@ -1,20 +1,19 @@
 -- A row of the index beside the list that it should hold. Assumes nothing.
 use mathlib.Core.Path.{◌≡◌, refl, sym, ap, ap₂, ◌∙◌}
 use mathlib.Core.Logic.{⊎_elim}
-use mathlib.Core.Bool.{Bool, true, false, not, ◌&&◌, cond}
+use mathlib.Core.Bool.{Bool, true, false, ◌&&◌, cond}
 use mathlib.Core.List.{List, [], ◌∷◌, ◌++◌, map, append_assoc, append-nil}
 use Prim.Native.Nat.{ℕ, zero, suc, ◌+◌, ◌-◌, ◌^◌, ◌≤◌, ◌<◌}
-use native.Mathlib.Nat.{zero-add, add-zero, add-suc}
+use native.Mathlib.Nat.{add-zero, add-suc}
 use native.Mathlib.Numerals.{add-one}
 use native.Mathlib.Omega.{arith}
-use lib.Dec.{eqb, ltb, leb}
-use lib.ListN.{length, get_or, set, take, drop, replicate, length-append, length-replicate, length-set, get_or-replicate, get_or-append}
+use lib.Dec.{eqb, ltb}
+use lib.ListN.{length, get_or, set, take, drop, replicate, length-append, length-replicate, get_or-replicate, get_or-append}
 use lib.Seq.{get_or_at, get_or-append-add, get_or-set_same, get_or-set_other}
 use borrow.Author.Tests.{lt-ltb, le-ltb, eq-eqb, ne_eqb, eqb-true, eqb-false, ltb-true, ltb-false}
-use Rattle.typeset.specs.Sets.{has, every, without, lowest}
+use Rattle.typeset.specs.Sets.{every, without, lowest}
 use Rattle.typeset.proofs.Bools.{yes_or_no}
 use Rattle.typeset.proofs.Below.{every-ext, every-last, every-no, every-none}
-use Rattle.typeset.proofs.Taken.{taken-below}
 use Rattle.plan.specs.declared.Subscriber.{Subscriber}
 use Rattle.plan.specs.Parts.{at}
 use Rattle.index.specs.Index.{address_of, row}

@@ -1,28 +1,25 @@
 -- What one pass through the subscribers leaves in 64 blank rows: each has the addresses of those who are in it. Assumes nothing.
-use mathlib.Core.Path.{◌≡◌, refl, sym, ap, ap₂, ◌∙◌}
+use mathlib.Core.Path.{◌≡◌, refl, sym, ap, ◌∙◌}
 use mathlib.Core.Logic.{⊎_elim}
-use mathlib.Core.Bool.{Bool, true, false, not, ◌&&◌, cond}
+use mathlib.Core.Bool.{true, false, cond}
 use mathlib.Core.List.{List, [], ◌∷◌, ◌++◌, map, append_assoc, append-nil}
-use Prim.Native.Nat.{ℕ, zero, suc, ◌+◌, ◌-◌, ◌≤◌, ◌<◌}
+use Prim.Native.Nat.{ℕ, suc, ◌+◌, ◌-◌, ◌≤◌, ◌<◌}
 use native.Mathlib.Nat.{sub-zero}
-use native.Mathlib.Numerals.{add-one}
 use native.Mathlib.Omega.{arith}
-use lib.Dec.{eqb, ltb, leb}
+use lib.Dec.{ltb}
 use lib.ListN.{length, get_or, set, take, drop, replicate, length-append, length-replicate, length-take, get_or-replicate, drop_of_length-le, replicate-append-replicate}
-use lib.Seq.{get_or_at, set_at, get_or-take, ext_get_or, take_all}
+use lib.Seq.{get_or_at, set_at, get_or-take, ext_get_or}
 use borrow.Author.Tests.{lt-ltb, le-ltb, le-leb, lt-leb, ltb-true, ltb-false}
-use Rattle.typeset.specs.Sets.{has}
 use Rattle.typeset.proofs.Bools.{yes_or_no}
 use Rattle.lists.specs.Lists.{keep}
 use Rattle.lists.proofs.Places.{here, keep-le}
 use Rattle.lists.proofs.Members.{keep-ext}
-use Rattle.plan.specs.declared.Region.TheVariants.{Source, Target}
 use Rattle.plan.specs.declared.Subscriber.{Subscriber}
 use Rattle.plan.specs.declared.Plan.{Plan}
 use Rattle.plan.specs.Parts.{nobody, at}
 use Rattle.plan.specs.Find.{used}
 use Rattle.index.specs.Index.{address_of, subscribers_to, row, list_of, tab, index_of}
-use Rattle.index.specs.Steps.{wants, members, touched, each, upon, with_one_more}
+use Rattle.index.specs.Steps.{wants, members, touched, upon, with_one_more}
 use Rattle.index.proofs.Rows.{each-length, each_at, tab-length, tab-at, tab-ext}
 
 -- ---- one address more in a row

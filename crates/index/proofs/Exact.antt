@@ -5,7 +5,7 @@ use mathlib.Core.Bool.{Bool}
 use mathlib.Core.List.{List}
 use Prim.Native.Nat.{ℕ}
 use contract.Lifetimes.{Lfts}
-use denote.Ref.{Bor}
+use denote.Ref.{Bor, MutBor}
 use denote.Triple.Clauses.{AtExit}
 use borrow.Fn.Kinds.{ended_of}
 use Rattle.plan.specs.declared.Plan.{Plan}
@@ -24,12 +24,12 @@ use Rattle.index.proofs.update.Kinds as update-kinds
 use Rattle.index.proofs.update_tested.Reads as update-tested
 use Rattle.index.proofs.update_tested.Kinds as update-tested-kinds
 
-pub build-exact : (κs : Lfts 1) (plan : Plan) (index : Bor (List (List ℕ))) (end end' : AtExit (ended_of 1 build-kinds.ps build-kinds.r) κs) (r s : Indexed)
+pub build-exact : (κs : Lfts 1) (plan : Plan) (index : MutBor (List (List ℕ))) (end end' : AtExit (ended_of 1 build-kinds.ps build-kinds.r) κs) (r s : Indexed)
     → build.Post κs (plan, (index, tt)) r end → build.Post κs (plan, (index, tt)) s end' → (r ≡ s) × (end.1.0.now ≡ end'.1.0.now)
 build-exact κs plan index end end' r s p q = (p.0 ∙ sym q.0, p.1 ∙ sym q.1)
 
 -- by a verdict on the plan
-pub build-tested-exact : (κs : Lfts 1) (kept : Bool) (plan : Plan) (index : Bor (List (List ℕ))) (end end' : AtExit (ended_of 1 build-tested-kinds.ps build-tested-kinds.r) κs) (r s : Indexed)
+pub build-tested-exact : (κs : Lfts 1) (kept : Bool) (plan : Plan) (index : MutBor (List (List ℕ))) (end end' : AtExit (ended_of 1 build-tested-kinds.ps build-tested-kinds.r) κs) (r s : Indexed)
     → build-tested.Post κs (kept, (plan, (index, tt))) r end → build-tested.Post κs (kept, (plan, (index, tt))) s end' → (r ≡ s) × (end.1.1.0.now ≡ end'.1.1.0.now)
 build-tested-exact κs kept plan index end end' r s p q = (p.0 ∙ sym q.0, p.1 ∙ sym q.1)
 
@@ -44,12 +44,12 @@ look-exact κs index region type end end' r s p q = p ∙ sym (q)
 same-updated : (r s : Updated) → r.said ≡ s.said → r.plan ≡ s.plan → r ≡ s
 same-updated r s a b = ap₂ (λ (x : Indexed) (y : Plan). record { said = x; plan = y }) a b
 
-pub update-exact : (κs : Lfts 1) (plan : Plan) (index : Bor (List (List ℕ))) (address source target : ℕ) (end end' : AtExit (ended_of 1 update-kinds.ps update-kinds.r) κs) (r s : Updated)
+pub update-exact : (κs : Lfts 1) (plan : Plan) (index : MutBor (List (List ℕ))) (address source target : ℕ) (end end' : AtExit (ended_of 1 update-kinds.ps update-kinds.r) κs) (r s : Updated)
     → update.Post κs (plan, (index, (address, (source, (target, tt))))) r end → update.Post κs (plan, (index, (address, (source, (target, tt))))) s end'
     → (r ≡ s) × (end.1.0.now ≡ end'.1.0.now)
 update-exact κs plan index address source target end end' r s p q = (same-updated r s (p.0 ∙ sym q.0) (p.1 ∙ sym q.1), p.2 ∙ sym q.2)
 
-pub update-tested-exact : (κs : Lfts 1) (kept : Bool) (plan : Plan) (index : Bor (List (List ℕ))) (address source target : ℕ) (end end' : AtExit (ended_of 1 update-tested-kinds.ps update-tested-kinds.r) κs)
+pub update-tested-exact : (κs : Lfts 1) (kept : Bool) (plan : Plan) (index : MutBor (List (List ℕ))) (address source target : ℕ) (end end' : AtExit (ended_of 1 update-tested-kinds.ps update-tested-kinds.r) κs)
     (r s : Updated)
     → update-tested.Post κs (kept, (plan, (index, (address, (source, (target, tt)))))) r end → update-tested.Post κs (kept, (plan, (index, (address, (source, (target, tt)))))) s end'
     → (r ≡ s) × (end.1.1.0.now ≡ end'.1.1.0.now)

@@ -1,9 +1,9 @@
 -- 46: the new sets fit exactly where the changed plan is sound again. No other rule of a plan speaks of a subscriber's sets. Assumes nothing.
 use mathlib.Core.Path.{◌≡◌, refl, sym, ap, ap₂, ◌∙◌}
 use mathlib.Core.Logic.{⊎_elim, ◌⊎◌, inl, inr}
-use mathlib.Core.Bool.{Bool, true, false, not, ◌&&◌}
+use mathlib.Core.Bool.{Bool, true, false, ◌&&◌}
 use mathlib.Core.List.{List}
-use Prim.Native.Nat.{ℕ, ◌-◌, ◌≤◌, ◌<◌}
+use Prim.Native.Nat.{ℕ, ◌-◌, ◌<◌}
 use native.Mathlib.Omega.{arith}
 use lib.Dec.{eqb, ltb, leb}
 use lib.ListN.{length, set}
@@ -11,15 +11,15 @@ use lib.Seq.{get_or-set_same, get_or-set_other}
 use borrow.Author.Tests.{eqb-true, eqb-false, lt-leb, le-leb}
 use Rattle.typeset.specs.Sets.{within, meet, every, implies}
 use Rattle.typeset.proofs.Bools.{yes_or_no, both_ways, and_left, and_right, and-make}
-use Rattle.typeset.proofs.Below.{every-at, every_of, every-ext}
+use Rattle.typeset.proofs.Below.{every_of, every-ext}
 use Rattle.typeset.proofs.Laws.{same_code}
 use Rattle.plan.specs.declared.Region.TheVariants.{Source, Target}
 use Rattle.plan.specs.declared.Types.{Types}
 use Rattle.plan.specs.declared.Subscriber.{Subscriber}
 use Rattle.plan.specs.declared.Plan.{Plan}
-use Rattle.plan.specs.Parts.{choice, order, nobody, at, box}
+use Rattle.plan.specs.Parts.{choice, nobody, at}
 use Rattle.plan.specs.Rules.{kind_known, address_given, count_fits, numbers_given, sets_in_choices, reversible_twice, numbers_differ, boxes_blank, holds, shares, lines_apart, one_kind, ascends, blank, rest_blank}
-use Rattle.plan.specs.Sound.{types_sound, source_sound, target_sound, boxes_sound, own_sound, numbers_apart, subscriber_sound, sound}
+use Rattle.plan.specs.Sound.{boxes_sound, own_sound, numbers_apart, subscriber_sound, sound}
 use Rattle.plan.specs.Find.{used}
 use Rattle.plan.proofs.Subscribers.{own_at, ascends-at, apart-at, own-kind, own-address, own-count, own-sets, own-reversible, own-boxes}
 use Rattle.plan.proofs.Laws.{few, types-kept, source-kept, target-kept, subscribers-kept, rest-kept, used_all}

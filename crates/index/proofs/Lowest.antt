@@ -1,13 +1,13 @@
 -- A set without its lowest type: the types that it has and the number before it has too. Assumes nothing.
-use mathlib.Core.Path.{◌≡◌, refl, sym, ap, ap₂, ◌∙◌}
+use mathlib.Core.Path.{◌≡◌, refl, sym, ap, ◌∙◌}
 use mathlib.Core.Logic.{⊎_elim}
 use mathlib.Core.Bool.{Bool, true, false, not, ◌&&◌, and-true}
-use Prim.Native.Nat.{ℕ, zero, suc, ◌+◌, ◌-◌, ◌*◌, ◌/◌, ◌%◌, ◌^◌, ◌≤◌, ◌<◌}
+use Prim.Native.Nat.{ℕ, zero, suc, ◌-◌, ◌/◌, ◌%◌, ◌^◌, ◌<◌}
 use native.Mathlib.Nat.{suc_inj, suc-ne-zero}
 use native.Mathlib.Omega.{arith}
 use lib.Dec.{eqb}
 use borrow.Author.Tests.{eqb-true, eqb-false, eq-eqb, ne_eqb}
-use Rattle.typeset.specs.Sets.{has, least, lowest, without, meet, first_of}
+use Rattle.typeset.specs.Sets.{has, least, lowest, without, meet}
 use Rattle.typeset.proofs.Bools.{yes_or_no}
 use Rattle.typeset.proofs.Below.{least-ext}
 use Rattle.typeset.proofs.Laws.{has_first, has-later, has-ext, has-meet-at, meet-lt, has-without-at, without-lt}

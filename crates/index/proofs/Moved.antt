@@ -3,24 +3,22 @@ use mathlib.Core.Path.{◌≡◌, refl, sym, ap, ◌∙◌}
 use mathlib.Core.Logic.{⊎_elim}
 use mathlib.Core.Bool.{Bool, true, false, not, ◌&&◌, ◌||◌, cond}
 use mathlib.Core.List.{List, [], ◌∷◌, map}
-use Prim.Native.Nat.{ℕ, zero, suc, ◌+◌, ◌-◌, ◌^◌, ◌≤◌, ◌<◌}
+use Prim.Native.Nat.{ℕ, zero, suc, ◌-◌, ◌≤◌, ◌<◌}
 use native.Mathlib.Omega.{arith}
 use lib.Dec.{eqb, ltb}
 use lib.ListN.{length, get_or, set, take, replicate, length-take}
 use lib.Seq.{take-set-lt, get_or-take, ext_get_or}
-use borrow.Author.Tests.{eqb-true, ltb-true, ltb-false, lt-ltb, le-ltb}
-use Rattle.typeset.specs.Sets.{has, every, join, minus}
+use borrow.Author.Tests.{eqb-true, ltb-true, ltb-false}
+use Rattle.typeset.specs.Sets.{has, minus}
 use Rattle.typeset.proofs.Bools.{yes_or_no}
 use Rattle.typeset.proofs.Below.{every-at, every-ext}
 use Rattle.typeset.proofs.Laws.{has-join-at, has-minus-at}
 use Rattle.lists.specs.Lists.{keep}
-use Rattle.plan.specs.declared.Region.{Region}
-use Rattle.plan.specs.declared.Region.TheVariants.{Source, Target}
 use Rattle.plan.specs.declared.Subscriber.{Subscriber}
 use Rattle.plan.specs.declared.Plan.{Plan}
-use Rattle.plan.specs.Parts.{nobody, at, subscribed}
+use Rattle.plan.specs.Parts.{nobody, at}
 use Rattle.plan.specs.Find.{used}
-use Rattle.index.specs.Index.{address_of, subscribers_to, row, list_of, tab, index_of, resubscribed, changed}
+use Rattle.index.specs.Index.{address_of, row, list_of, tab, index_of, resubscribed, changed}
 use Rattle.index.specs.Steps.{wants, members, touched, upon, differing, all_go_on}
 use Rattle.index.specs.Said.{same_row, matches}
 use Rattle.index.proofs.Rows.{tab-length, tab-at}

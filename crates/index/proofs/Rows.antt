@@ -10,7 +10,7 @@ use lib.Dec.{eqb, ltb, leb}
 use lib.ListN.{length, get_or, set}
 use borrow.Author.Tests.{lt-ltb, le-leb, eq-eqb, ne_eqb, leb-true, ltb-true, eqb-true, eqb-false}
 use Rattle.typeset.specs.Sets.{has, without, lowest}
-use Rattle.typeset.proofs.Bools.{yes_or_no, fails, clash, and_left, and_right, and-make, not-true}
+use Rattle.typeset.proofs.Bools.{yes_or_no, fails, clash, and_right, and-make, not-true}
 use Rattle.typeset.proofs.Laws.{has-empty, has-without-at}
 use Rattle.typeset.proofs.Taken.{taken-below, taken-has}
 use Rattle.plan.specs.declared.Region.{Region}

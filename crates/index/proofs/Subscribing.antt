@@ -1,19 +1,18 @@
 -- What a list of the index has: the addresses of those who subscribe to the type in the region, and of no other; in a sound plan strictly ascending. A look-up answers that list. Assumes nothing.
 use mathlib.Core.Path.{◌≡◌, refl, sym, ap, ◌∙◌}
 use mathlib.Core.Logic.{⊎_elim}
-use mathlib.Core.Bool.{Bool, true, false, not, ◌&&◌, ◌||◌, cond}
+use mathlib.Core.Bool.{Bool, true, false, not, ◌&&◌, ◌||◌}
 use mathlib.Core.List.{List, [], ◌∷◌, ◌++◌, map, append_assoc}
-use Prim.Native.Nat.{ℕ, zero, suc, ◌+◌, ◌-◌, ◌^◌, ◌≤◌, ◌<◌, min}
+use Prim.Native.Nat.{ℕ, suc, ◌+◌, ◌-◌, ◌≤◌, ◌<◌, min}
 use native.Mathlib.Nat.{min-eq_left}
 use native.Mathlib.Omega.{arith}
 use lib.Dec.{eqb, ltb}
 use lib.ListN.{length, get_or, take, replicate, length-take}
 use lib.Seq.{get_or-take, take_at}
-use borrow.Author.Tests.{lt-ltb, le-ltb, ltb-true, ltb-false, eqb-false}
-use Rattle.typeset.specs.Sets.{has, some, every}
-use Rattle.typeset.proofs.Bools.{yes_or_no, and_left, and_right, and-make, not-true}
+use borrow.Author.Tests.{lt-ltb, le-ltb, eqb-false}
+use Rattle.typeset.specs.Sets.{has, some}
+use Rattle.typeset.proofs.Bools.{yes_or_no, and_right, and-make, not-true}
 use Rattle.typeset.proofs.Below.{some-ext}
-use Rattle.typeset.proofs.Laws.{has-past}
 use Rattle.lists.specs.Lists.{elem, keep, ascend}
 use Rattle.lists.proofs.Ascending.{ascend-low}
 use Rattle.plan.specs.declared.Region.{Region}

@@ -1,9 +1,9 @@
 -- What parts of the program promise each other. Assumes nothing.
-use Rattle.std.specs.Prelude.{ℕ, suc, ◌+◌, ◌-◌, Bool, ◌&&◌, cond, List, [], ◌∷◌, map, eqb, ltb, leb, get_or, set, take}
+use Rattle.std.specs.Prelude.{ℕ, suc, ◌+◌, ◌-◌, Bool, ◌&&◌, cond, List, [], ◌∷◌, map, eqb, ltb, leb, get_or, set}
 use Rattle.typeset.specs.Sets.{has, every, join, minus}
 use Rattle.lists.specs.Lists.{keep}
 use Rattle.plan.specs.declared.Subscriber.{Subscriber}
-use Rattle.index.specs.Index.{address_of, row}
+use Rattle.index.specs.Index.{address_of}
 
 -- the subscriber is in row k
 unfoldable pub wants : ℕ → Subscriber → Bool

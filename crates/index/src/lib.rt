@@ -1,6 +1,7 @@
 // Who subscribes to a box type: beside a plan an index, in lent memory. Rows 0 to 31 are the types in the source region, rows 32 to 63 the types in the target region. A row has the addresses that subscribe to the type
 // there, ascending, then 0 in every place that is left of 256, and in its last place how many they are.
 #![tactic(auto)]
+
 ghost use Rattle.std.specs.Prelude.{◌≡◌, ◌&&◌, List, [], ℕ, ◌<◌, ◌≤◌, min, length, get_or, take, replicate};
 ghost use Rattle.lists.specs.Lists.{keep};
 ghost use Rattle.index.specs.Index.{row, tab, looked_up, row_or, resubscribed, changed};

@@ -1,12 +1,12 @@
 -- A feature box that a call has reached may send on what it received: nothing refuses it. So a journey is made of public operations that are all accepted. Assumes nothing.
 use mathlib.Core.Path.{◌≡◌, refl, sym, ap, ◌∙◌}
 use mathlib.Core.Logic.{◌⊎◌, inl, inr, ⊎_elim}
-use mathlib.Core.Bool.{Bool, true, false, ◌&&◌, ◌||◌, false≢true}
+use mathlib.Core.Bool.{true, false, false≢true}
 use mathlib.Core.List.{List, [], ◌∷◌}
-use Prim.Native.Nat.{ℕ, zero, suc, ◌+◌, ◌≤◌, ◌<◌}
+use Prim.Native.Nat.{ℕ, zero, suc, ◌<◌}
 use native.Mathlib.Nat.{not-suc-le-zero}
 use native.Mathlib.Omega.{arith}
-use lib.Dec.{eqb, ltb}
+use lib.Dec.{eqb}
 use lib.ListN.{length, get_or}
 use borrow.Author.Tests.{ltb-true, eq-eqb, eqb-true}
 use Rattle.typeset.specs.Sets.{has, every, least}
@@ -25,21 +25,19 @@ use Rattle.zone.specs.Answer.{zone_at}
 use Rattle.zone.proofs.Members.{elem}
 use Rattle.zone.proofs.PlanZones.{zone-nobody, zone-types, chosen}
 use Rattle.setup.specs.declared.Setup.{Setup}
-use Rattle.setup.specs.declared.Route.{Route}
-use Rattle.setup.specs.declared.Route.TheVariants.{Whole, Suffix, Listed}
 use Rattle.setup.specs.Dialling.{legal_string}
-use Rattle.setup.specs.Setups.{routing, routing_address, list_of, well_formed}
+use Rattle.setup.specs.Setups.{routing_address, list_of, well_formed}
 use Rattle.making.specs.declared.Maker.TheVariants.{Feature as FeatureMaker}
 use Rattle.making.specs.declared.Maker.{Maker}
 use Rattle.making.specs.declared.Outcome.TheVariants.{Made}
-use Rattle.making.specs.Making.{is_list, not_own, somebody, continued_outcome, continued_outcome_by, continued_setup}
+use Rattle.making.specs.Making.{is_list, not_own, somebody, continued_outcome, continued_outcome_by}
 use Rattle.making.proofs.Outcomes.{Continued}
 use Rattle.making.proofs.WellFormed.{continued-well-formed}
 use Rattle.routing.specs.declared.Callee.{Callee}
 use Rattle.routing.specs.declared.Callee.TheVariants.{Feature, Line, Trunk, Resource, Error}
 use Rattle.routing.specs.Interface.{is_feature, address_of, interface_at}
-use Rattle.routing.specs.Steps.{place_of, stands, callee_of, received_of, target1}
-use Rattle.routing.specs.Properties.{FeatureBox, Properties}
+use Rattle.routing.specs.Steps.{place_of, stands, callee_of, received_of}
+use Rattle.routing.specs.Properties.{FeatureBox}
 use Rattle.routing.proofs.Boxes.{interface-no-feature}
 use Rattle.routing.proofs.Properties.{manual66, received-well-formed}
 use Rattle.journey.specs.Hops.{passed_on}

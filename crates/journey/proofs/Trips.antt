@@ -1,7 +1,7 @@
 -- The journey that the program makes hop by hop is the journey of Hops.antt. Assumes nothing.
-use mathlib.Core.Path.{◌≡◌, refl, sym, ap, ◌∙◌}
+use mathlib.Core.Path.{◌≡◌, refl, ap}
 use mathlib.Core.Logic.{⊎_elim}
-use mathlib.Core.Bool.{Bool, true, false, cond, false≢true}
+use mathlib.Core.Bool.{true, false, cond, false≢true}
 use mathlib.Core.List.{List, [], ◌∷◌, ◌++◌}
 use Prim.Native.Nat.{ℕ, suc, ◌+◌, ◌-◌, ◌*◌, ◌≤◌, ◌<◌}
 use native.Mathlib.Omega.{arith}
@@ -12,22 +12,19 @@ use Rattle.plan.specs.declared.Plan.{Plan}
 use Rattle.plan.specs.Sound.{sound}
 use Rattle.setup.specs.declared.Setup.{Setup}
 use Rattle.setup.specs.Setups.{well_formed}
-use Rattle.making.specs.declared.Maker.TheVariants.{Feature as FeatureMaker}
 use Rattle.making.specs.declared.Outcome.{Outcome}
-use Rattle.making.specs.Making.{continued_setup, continued_answer, answered}
+use Rattle.making.specs.Making.{continued_setup, answered}
 use Rattle.text.specs.Decimal.{decimal}
-use Rattle.text.proofs.Stores.{sets-both}
 use Rattle.text.proofs.Tens.{decimal-some}
 use Rattle.routing.specs.declared.Callee.{Callee}
 use Rattle.routing.specs.declared.Callee.TheVariants.{Feature, Line, Trunk, Resource, Error}
 use Rattle.routing.specs.declared.Later.TheVariants.{Nothing}
 use Rattle.routing.specs.declared.Outcome.TheVariants.{Routed}
-use Rattle.routing.specs.declared.Answer.{Answer}
 use Rattle.routing.specs.Interface.{is_feature, address_of}
 use Rattle.routing.specs.Steps.{callee_of, received_of, left_of}
 use Rattle.routing.specs.Routing.{roomy, settled_by, outcome_by, answer, answer_by, answered as routed_answer}
 use Rattle.journey.specs.declared.Trip.{Trip}
-use Rattle.journey.specs.Hops.{Hop, hop, passed_on, onward, hops}
+use Rattle.journey.specs.Hops.{passed_on, onward, hops}
 use Rattle.journey.specs.Listing.{kind_word, number_in, spaced, line, lines}
 use Rattle.journey.specs.Trips.{callee_in, sent_on, line_of, hop_text, on_the_way, hopped}
 use Rattle.journey.proofs.Accepted.{passes_on, passed-well-formed}

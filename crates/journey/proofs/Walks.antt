@@ -1,9 +1,9 @@
 -- The journey of a setup visits the source zone, then the target zone, then one interface or error box. Assumes nothing.
 use mathlib.Core.Path.{◌≡◌, refl, sym, ap, ◌∙◌}
 use mathlib.Core.Logic.{⊎_elim}
-use mathlib.Core.Bool.{Bool, true, false, cond, false≢true}
+use mathlib.Core.Bool.{true, false, cond, false≢true}
 use mathlib.Core.List.{List, [], ◌∷◌, ◌++◌}
-use Prim.Native.Nat.{ℕ, zero, suc, ◌+◌, ◌-◌, ◌≤◌, ◌<◌}
+use Prim.Native.Nat.{ℕ, zero, suc, ◌+◌, ◌<◌}
 use native.Mathlib.Nat.{not-suc-le-zero}
 use native.Mathlib.Omega.{arith}
 use lib.Dec.{eqb}
@@ -21,17 +21,17 @@ use Rattle.setup.specs.declared.Outer.{Outer}
 use Rattle.setup.specs.declared.Outer.TheVariants.{NoOuter}
 use Rattle.setup.specs.declared.Setup.{Setup}
 use Rattle.setup.specs.Dialling.{dialled, string_of}
-use Rattle.setup.specs.Setups.{routing, list_of}
+use Rattle.setup.specs.Setups.{routing}
 use Rattle.setup.proofs.Stored.{string-of-dialled}
 use Rattle.making.specs.Making.{further, continued_setup}
 use Rattle.embedded.specs.Embedded.{embedded}
 use Rattle.routing.specs.declared.Callee.{Callee}
 use Rattle.routing.specs.declared.Callee.TheVariants.{Feature, Line, Trunk, Resource, Error}
 use Rattle.routing.specs.Interface.{is_feature, address_of, interface_at}
-use Rattle.routing.specs.Steps.{dials, target1, zone2, route2, region3, route3, outer3, tail, chosen, callee4, received4, region_of, route_of, callee_of, received_of, left_of}
+use Rattle.routing.specs.Steps.{dials, target1, zone2, route2, region3, route3, outer3, tail, callee4, received4, region_of, route_of, callee_of, received_of, left_of}
 use Rattle.routing.proofs.Boxes.{interface-no-feature}
 use Rattle.routing.proofs.Zoned.{held-is}
-use Rattle.journey.specs.Hops.{Hop, hop, passed_on, onward, hops, all, journey, visits, both_zones}
+use Rattle.journey.specs.Hops.{Hop, hop, passed_on, onward, hops, journey, visits, both_zones}
 
 -- ---- a setup sent on: the region and both addresses as they were, the route a list
 

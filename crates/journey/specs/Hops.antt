@@ -9,7 +9,7 @@ use Rattle.making.specs.Making.{continued_setup}
 use Rattle.routing.specs.declared.Callee.{Callee}
 use Rattle.routing.specs.declared.Callee.TheVariants.{Feature, Line, Trunk, Resource, Error}
 use Rattle.routing.specs.Interface.{interface_at, address_of}
-use Rattle.routing.specs.Steps.{target1, callee_of, received_of, left_of}
+use Rattle.routing.specs.Steps.{callee_of, received_of, left_of}
 
 -- a hop: the callee box, and how many types are left in the setup that it receives
 pub record Hop : Type 0 where

@@ -1,6 +1,6 @@
 -- The desk's listing (document 01, 'The teaching plan'): a head line, then a line for each hop: hop from 1, box kind, type or box number (0 for error), address, types left.
 -- Text is bytes, as ASCII codes. Assumes nothing.
-use Rattle.std.specs.Prelude.{ℕ, suc, ◌+◌, List, [], ◌∷◌, ◌++◌}
+use Rattle.std.specs.Prelude.{ℕ, ◌+◌, List, [], ◌∷◌, ◌++◌}
 use Rattle.routing.specs.declared.Callee.{Callee}
 use Rattle.routing.specs.declared.Callee.TheVariants.{Feature, Line, Trunk, Resource, Error}
 use Rattle.routing.specs.Interface.{address_of}

@@ -1,5 +1,5 @@
 -- A journey as the program makes it, hop by hop: what its parts promise. That this is the journey (Hops.antt) is proved (proofs/Trips.antt). Assumes nothing.
-use Rattle.std.specs.Prelude.{ℕ, ◌+◌, Bool, true, false, cond, List, [], length}
+use Rattle.std.specs.Prelude.{ℕ, ◌+◌, cond, List, [], length}
 use Rattle.plan.specs.declared.Plan.{Plan}
 use Rattle.setup.specs.declared.Setup.{Setup}
 use Rattle.making.specs.declared.Maker.TheVariants.{Feature as FeatureMaker}

@@ -1,8 +1,8 @@
 -- What an outcome says: where a setup is made every test passed, and then the string is all of its first 32 bytes. Assumes nothing.
-use mathlib.Core.Path.{◌≡◌, refl, sym, ap, ◌∙◌}
+use mathlib.Core.Path.{◌≡◌, refl, ap}
 use mathlib.Core.Bool.{Bool, true, false, ◌&&◌}
 use mathlib.Core.List.{List}
-use Prim.Native.Nat.{ℕ, ◌≤◌}
+use Prim.Native.Nat.{ℕ}
 use native.Mathlib.Omega.{arith}
 use lib.Dec.{eqb, leb}
 use lib.ListN.{length, take}
@@ -18,8 +18,7 @@ use Rattle.setup.specs.declared.Setup.{Setup}
 use Rattle.making.specs.declared.Maker.{Maker}
 use Rattle.making.specs.declared.Outcome.{Outcome}
 use Rattle.making.specs.declared.Outcome.TheVariants.{Made, Refused}
-use Rattle.making.specs.declared.Answer.{Answer}
-use Rattle.setup.specs.Dialling.{symbol, legal_string}
+use Rattle.setup.specs.Dialling.{legal_string}
 use Rattle.setup.specs.Setups.{routing_address, well_formed}
 use Rattle.making.specs.Making.{box_address, box_type, type_exists, makes_new, makes_more, address_held, turned, unless, is_list, not_own, new_outcome, new_outcome_by, continued_outcome, continued_outcome_by, reversed_outcome, reversed_outcome_by, answered}
 use Rattle.setup.proofs.Stored.{all-32}

@@ -1,20 +1,18 @@
 -- What new, continued and reversed make is well formed (manual 5.4 to 5.6). Assumes nothing.
-use mathlib.Core.Path.{◌≡◌, refl, sym, ap, ◌∙◌}
+use mathlib.Core.Path.{◌≡◌, refl, ap}
 use mathlib.Core.Logic.{⊎_elim}
-use mathlib.Core.Bool.{Bool, true, false, not, ◌&&◌, cond, false≢true}
+use mathlib.Core.Bool.{Bool, true, false, not, ◌&&◌, false≢true}
 use mathlib.Core.List.{List, []}
 use Prim.Native.Nat.{ℕ, ◌≤◌}
 use lib.Dec.{eqb, leb}
 use lib.ListN.{length, take, length-take}
 use native.Mathlib.Omega.{arith}
 use borrow.Author.Tests.{eqb-true, leb-true, le-leb}
-use Rattle.typeset.specs.Sets.{has}
 use Rattle.typeset.proofs.Bools.{yes_or_no, clash, and_left, and_right, and-make, not-true}
 use Rattle.plan.specs.declared.Region.{Region}
 use Rattle.plan.specs.declared.Region.TheVariants.{Source, Target}
 use Rattle.plan.specs.declared.Plan.{Plan}
 use Rattle.plan.specs.Parts.{legal, given}
-use Rattle.plan.specs.Find.{lookup}
 use Rattle.plan.proofs.Lookup.{lookup-not-given}
 use Rattle.zone.specs.declared.Zone.{Zone}
 use Rattle.zone.specs.Order.{held}
@@ -27,7 +25,7 @@ use Rattle.setup.specs.declared.Placing.{Placing}
 use Rattle.setup.specs.declared.Placing.TheVariants.{NoPlacing, PlacedBy}
 use Rattle.setup.specs.declared.Setup.{Setup}
 use Rattle.setup.specs.Dialling.{legal_string, dialled, string_of, legal_dialled}
-use Rattle.setup.specs.Setups.{routing, other, routing_address, list_of, end_part, outer_legal, in_range, list_fits, route_fits, placing_fits, outer_fits, well_formed}
+use Rattle.setup.specs.Setups.{routing, other, routing_address, list_of, end_part, outer_legal, in_range, list_fits, route_fits, placing_fits, well_formed}
 use Rattle.setup.proofs.Faults.{Kept, well-formed-of, well-formed-kept, dialled-legal, string-legal}
 use Rattle.making.specs.declared.Maker.{Maker}
 use Rattle.making.specs.declared.Maker.TheVariants.{Feature, Line, Trunk, Resource, Error}

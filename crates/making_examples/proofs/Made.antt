@@ -17,7 +17,7 @@ use Rattle.setup.specs.Dialling.{symbol, legal_string, padded, dialled, string_o
 use Rattle.setup.specs.Setups.{routing_address, list_of, end_part, in_range, list_fits, fault_in, fault, well_formed}
 use Rattle.making.specs.declared.Maker.TheVariants.{Feature, Line}
 use Rattle.making.specs.declared.Outcome.TheVariants.{Made}
-use Rattle.making.specs.Making.{new_setup, further, continued_setup, reversed_setup, not_own, new_outcome, new_outcome_by, continued_outcome, continued_outcome_by, reversed_outcome, reversed_outcome_by, answered, new_answer, continued_answer, reversed_answer}
+use Rattle.making.specs.Making.{new_setup, further, continued_setup, reversed_setup, not_own, new_outcome_by, continued_outcome_by, reversed_outcome_by, answered, new_answer, continued_answer, reversed_answer}
 use Rattle.making_examples.specs.Setups.{dialled300, setup_of, p5_sent, p6_received, p6_sent, p7_received, p7_sent, p7_received_at700, p7_sent_again, p8_stored, p8_sent}
 
 -- P5: the line box of 200 makes a new setup, string "300"

@@ -1,10 +1,8 @@
 -- What holds at each turn of the loop that looks through the subscribers: what holds where they are kept, for some subscribers that nobody keeps; and of these the two addresses' are at hand. Assumes nothing.
 use mathlib.Core.Path.{◌≡◌, refl, sym, ap, ◌∙◌}
 use mathlib.Core.Logic.{⊎_elim}
-use mathlib.Core.Bool.{true, false}
 use mathlib.Core.List.{List}
 use Prim.Native.Nat.{ℕ, ◌+◌, ◌≤◌, ◌<◌}
-use native.Mathlib.Omega.{arith}
 use lib.Dec.{eqb}
 use lib.ListN.{length, set, replicate}
 use Rattle.refusal.specs.declared.Refusal.{Refusal}

@@ -5,7 +5,6 @@ use mathlib.Core.List.{List}
 use Prim.Native.Nat.{ℕ, zero, suc, ◌+◌, min}
 use lib.Dec.{eqb, ltb, leb}
 use lib.ListN.{length}
-use Rattle.refusal.specs.declared.Place.{Place}
 use Rattle.refusal.specs.declared.Place.TheVariants.{Nowhere, At}
 use Rattle.refusal.specs.declared.Refusal.TheVariants.{WrongEnd, WrongTag, WrongLength, TooManySubscribers}
 use Rattle.plan.specs.declared.Plan.{Plan}

@@ -11,7 +11,6 @@ use lib.ListN.{length, get_or, drop}
 use borrow.Author.Tests.{eqb-true, eq-eqb, eqb-false, ne_eqb, lt-ltb}
 use Rattle.typeset.specs.Sets.{least}
 use Rattle.typeset.proofs.Bools.{yes_or_no}
-use Rattle.plan.specs.Parts.{at}
 use Rattle.zone.proofs.Members.{elem}
 use Rattle.routing.specs.Steps.{place_of, stands, before as passed, suffix_after}
 use Rattle.reversal.specs.Reversal.{types_after}

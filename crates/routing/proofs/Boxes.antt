@@ -1,11 +1,11 @@
 -- The interface box of an address of a sound plan, kind by kind (manual 6.5). Assumes nothing.
 use mathlib.Core.Path.{◌≡◌, refl, sym, ap, ◌∙◌}
 use mathlib.Core.Logic.{⊎_elim}
-use mathlib.Core.Bool.{Bool, true, false}
-use Prim.Native.Nat.{ℕ, ◌≤◌, ◌<◌, min}
+use mathlib.Core.Bool.{true, false}
+use Prim.Native.Nat.{ℕ, ◌≤◌, ◌<◌}
 use native.Mathlib.Omega.{arith}
 use lib.Dec.{eqb}
-use borrow.Author.Tests.{eq-eqb, ne_eqb}
+use borrow.Author.Tests.{ne_eqb}
 use Rattle.typeset.proofs.Bools.{yes_or_no}
 use Rattle.plan.specs.declared.Subscriber.{Subscriber}
 use Rattle.plan.specs.declared.Plan.{Plan}
@@ -17,7 +17,7 @@ use Rattle.plan.specs.Find.{used, lookup, holder_of, holder_at}
 use Rattle.plan.proofs.Lookup.{found-used}
 use Rattle.plan.proofs.Holders.{line-one, resource-some, mobile-none}
 use Rattle.routing.specs.declared.Callee.{Callee}
-use Rattle.routing.specs.declared.Callee.TheVariants.{Feature, Line, Trunk, Resource, Error}
+use Rattle.routing.specs.declared.Callee.TheVariants.{Line, Trunk, Resource, Error}
 use Rattle.routing.specs.declared.First.TheVariants.{Box, Nothing as NoBox}
 use Rattle.routing.specs.Places.{first_listed}
 use Rattle.routing.specs.Interface.{is_feature, address_of, box_of, first_box, found_box, interface_at}

@@ -1,7 +1,7 @@
 -- The outcome of routing in document 01's numbers and places: 23, 5, 18, then the caller's own, each exactly when its line holds and nothing earlier does. Assumes nothing.
-use mathlib.Core.Path.{◌≡◌, refl, sym, ap, ◌∙◌}
+use mathlib.Core.Path.{◌≡◌, refl, ap, ◌∙◌}
 use mathlib.Core.Logic.{⊎_elim}
-use mathlib.Core.Bool.{Bool, true, false, not, cond, ◌&&◌}
+use mathlib.Core.Bool.{true, false}
 use Prim.Native.Nat.{ℕ}
 use Rattle.typeset.proofs.Bools.{yes_or_no}
 use Rattle.plan.specs.declared.Plan.{Plan}

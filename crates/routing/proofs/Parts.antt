@@ -1,23 +1,21 @@
 -- Lists as the parts of routing handle them: an end part of a list, its tail, where a type stands, a zone stored at the front. Assumes nothing.
 use mathlib.Core.Path.{◌≡◌, refl, sym, ap, ◌∙◌}
 use mathlib.Core.Logic.{⊎_elim}
-use mathlib.Core.Bool.{Bool, true, false}
+use mathlib.Core.Bool.{true, false}
 use mathlib.Core.List.{List, [], ◌∷◌, ◌++◌}
 use Prim.Native.Nat.{ℕ, zero, suc, ◌+◌, ◌-◌, ◌≤◌, ◌<◌, min}
 use native.Mathlib.Nat.{min-zero, zero-min, suc-min-suc, suc-sub-suc, sub-zero, zero-add}
 use native.Mathlib.Numerals.{add-one}
 use native.Mathlib.Omega.{arith}
 use lib.Dec.{eqb, leb}
-use lib.ListN.{length, get_or, set, take, drop, length-take, length-drop, drop_of_length-le}
+use lib.ListN.{length, get_or, set, take, drop, length-take, drop_of_length-le}
 use lib.Seq.{sets, sets-eq, take-nil, drop-nil, drop-cons, take_all, take_at, get_or-take}
-use borrow.Author.Tests.{le-leb, lt-leb, eqb-true}
-use Rattle.typeset.specs.Sets.{least}
+use borrow.Author.Tests.{le-leb, lt-leb}
 use Rattle.typeset.proofs.Below.{least-le, least-found, least-none}
 use Rattle.typeset.proofs.Laws.{split}
 use Rattle.zone.specs.declared.Zone.{Zone}
 use Rattle.setup.specs.Setups.{list_of}
-use Rattle.setup.proofs.Stored.{cut-length}
-use Rattle.routing.specs.Steps.{place_of, before, empty, tail}
+use Rattle.routing.specs.Steps.{place_of, empty, tail}
 
 -- ---- end parts
 

@@ -1,47 +1,43 @@
 -- The properties of routing (specs/Properties.antt; manual 6.6), and what it hands to a feature box. Assumes nothing.
 use mathlib.Core.Path.{◌≡◌, refl, sym, ap, ◌∙◌}
 use mathlib.Core.Logic.{◌⊎◌, inl, inr, ⊎_elim}
-use mathlib.Core.Bool.{Bool, true, false, cond, false≢true, ◌&&◌}
+use mathlib.Core.Bool.{Bool, true, false, false≢true, ◌&&◌}
 use mathlib.Core.List.{List, [], ◌∷◌}
-use Prim.Native.Nat.{ℕ, zero, suc, ◌+◌, ◌-◌, ◌≤◌, ◌<◌}
+use Prim.Native.Nat.{ℕ, suc, ◌≤◌, ◌<◌}
 use native.Mathlib.Omega.{arith}
-use lib.Dec.{eqb, leb, ltb}
+use lib.Dec.{eqb}
 use lib.ListN.{length, get_or, take, drop, length-drop, drop_of_length-le}
 use lib.Seq.{drop-cons, drop-length, get_or-drop, take_at}
-use borrow.Author.Tests.{le-leb, leb-true, lt-ltb, ltb-true, eq-eqb, eqb-true, ne_eqb}
+use borrow.Author.Tests.{le-leb, lt-ltb, ltb-true, eq-eqb, eqb-true}
 use Rattle.typeset.specs.Sets.{least}
-use Rattle.typeset.proofs.Bools.{yes_or_no, clash, and_left, and_right, and-make}
+use Rattle.typeset.proofs.Bools.{yes_or_no, and_left, and_right, and-make}
 use Rattle.typeset.proofs.Below.{least-at-most}
 use Rattle.typeset.proofs.Laws.{split}
 use Rattle.plan.specs.declared.Region.{Region}
 use Rattle.plan.specs.declared.Region.TheVariants.{Source, Target}
 use Rattle.plan.specs.declared.Plan.{Plan}
 use Rattle.plan.specs.Parts.{legal}
-use Rattle.zone.specs.declared.Zone.{Zone}
 use Rattle.zone.specs.Order.{held}
 use Rattle.zone.specs.Answer.{zone_at}
 use Rattle.zone.proofs.PlanZones.{zone-short, zone-zero}
-use Rattle.setup.specs.declared.Route.TheVariants.{Listed}
-use Rattle.setup.specs.declared.Placing.TheVariants.{NoPlacing}
 use Rattle.setup.specs.declared.Outer.{Outer}
 use Rattle.setup.specs.declared.Outer.TheVariants.{NoOuter, OuterAt}
 use Rattle.setup.specs.declared.Setup.{Setup}
-use Rattle.setup.specs.Dialling.{dialled, string_of, legal_dialled}
-use Rattle.setup.specs.Setups.{routing, routing_address, list_of, end_part, outer_legal, in_range, list_fits, route_fits, outer_absent, outer_given, outer_fits, well_formed}
+use Rattle.setup.specs.Dialling.{string_of, legal_dialled}
+use Rattle.setup.specs.Setups.{routing, routing_address, list_of, end_part, outer_legal, in_range, list_fits, outer_absent, outer_fits, well_formed}
 use Rattle.setup.proofs.Stored.{string-of-dialled}
-use Rattle.setup.proofs.Faults.{Kept, well-formed-kept, well-formed-of, dialled-legal, string-legal}
+use Rattle.setup.proofs.Faults.{well-formed-kept, well-formed-of, dialled-legal, string-legal}
 use Rattle.setup.proofs.Tails.{end-part-of, end-part-short, end-part-is}
 use Rattle.embedded.specs.declared.Dials.{Dials}
 use Rattle.embedded.specs.declared.Dials.TheVariants.{Nobody, Address}
 use Rattle.embedded.specs.Embedded.{embedded}
 use Rattle.embedded.proofs.Digits.{embedded-legal}
 use Rattle.routing.specs.declared.Callee.{Callee}
-use Rattle.routing.specs.declared.Callee.TheVariants.{Feature}
 use Rattle.routing.specs.declared.Outcome.TheVariants.{Routed}
 use Rattle.routing.specs.Interface.{is_feature, address_of, interface_at}
-use Rattle.routing.specs.Steps.{dials, target1, place_of, stands, zone2, route2, empty, exhausted, region3, route3, outer3, chosen, tail, callee4, received4, region_of, route_of, callee_of, received_of, left_of}
-use Rattle.routing.specs.Properties.{FeatureBox, Properties, Manual66, ReceivedWellFormed, LeftLies}
-use Rattle.routing.proofs.Zoned.{held-is, target-given, route-begins}
+use Rattle.routing.specs.Steps.{dials, target1, place_of, stands, zone2, route2, empty, exhausted, region3, route3, outer3, tail, callee4, received4, region_of, route_of, callee_of, received_of, left_of}
+use Rattle.routing.specs.Properties.{FeatureBox, Manual66, ReceivedWellFormed, LeftLies}
+use Rattle.routing.proofs.Zoned.{held-is, route-begins}
 use Rattle.routing.specs.Routing.{source_list_after, target_list_after}
 use Rattle.routing.specs.Places.{list_in, begins}
 use Rattle.routing.proofs.Boxes.{interface-no-feature, interface-address}

@@ -1,10 +1,9 @@
 -- From the lists to the steps: what the program finds in the two zones is what the steps of routing say. Assumes nothing.
 use mathlib.Core.Path.{◌≡◌, refl, sym, ap, ◌∙◌}
 use mathlib.Core.Logic.{◌⊎◌, inl, inr, ⊎_elim}
-use mathlib.Core.Bool.{Bool, true, false, cond, false≢true, ◌&&◌}
+use mathlib.Core.Bool.{Bool, true, false, false≢true}
 use mathlib.Core.List.{List}
-use Prim.Native.Nat.{ℕ, ◌-◌, ◌≤◌, ◌<◌}
-use native.Mathlib.Omega.{arith}
+use Prim.Native.Nat.{ℕ, ◌≤◌}
 use lib.Dec.{eqb, leb}
 use lib.ListN.{length, take, drop}
 use lib.Seq.{sets}
@@ -13,7 +12,6 @@ use Rattle.typeset.proofs.Bools.{yes_or_no, and_left, and_right}
 use Rattle.plan.specs.declared.Region.{Region}
 use Rattle.plan.specs.declared.Region.TheVariants.{Source, Target}
 use Rattle.plan.specs.declared.Plan.{Plan}
-use Rattle.plan.specs.Sound.{sound}
 use Rattle.zone.specs.declared.Zone.{Zone}
 use Rattle.zone.specs.Order.{held}
 use Rattle.zone.specs.Answer.{zone_at}
@@ -25,7 +23,7 @@ use Rattle.setup.specs.declared.Placing.TheVariants.{NoPlacing, PlacedBy}
 use Rattle.setup.specs.declared.Outer.TheVariants.{NoOuter}
 use Rattle.setup.specs.declared.Setup.{Setup}
 use Rattle.setup.specs.Setups.{routing, routing_address, list_of, end_part, list_fits, route_fits, fault_in, faultless, well_formed}
-use Rattle.setup.proofs.Faults.{Kept, well-formed-kept, fault-in}
+use Rattle.setup.proofs.Faults.{well-formed-kept, fault-in}
 use Rattle.setup.proofs.Tails.{end-part-is}
 use Rattle.refusal.specs.declared.Refusal.{Refusal}
 use Rattle.refusal.specs.declared.Refusal.TheVariants.{RuleBroken, Malformed, ListTooShort}
@@ -33,9 +31,8 @@ use Rattle.routing.specs.declared.Later.{Later}
 use Rattle.routing.specs.declared.Later.TheVariants.{Nothing, Refuse}
 use Rattle.routing.specs.declared.Outcome.{Outcome}
 use Rattle.routing.specs.declared.Outcome.TheVariants.{Routed, Refused}
-use Rattle.routing.specs.declared.Answer.{Answer}
 use Rattle.routing.specs.Steps.{target1, suffix_after, suffix, expanded, zone2, route2, exhausted, region3, route3, outer3, region_of, route_of, callee_of, received_of, left_of}
-use Rattle.routing.specs.Routing.{unless, roomy, settled_by, ended, outcome_by, refused_with, answered, answer_by, source_list_after, target_list_after}
+use Rattle.routing.specs.Routing.{unless, roomy, settled_by, outcome_by, refused_with, answered, answer_by, source_list_after, target_list_after}
 use Rattle.routing.specs.Places.{list_in, zone_in, suffix_begins, begins, delivered, advanced, settled_in}
 use Rattle.routing.proofs.Parts.{stored-front}
 

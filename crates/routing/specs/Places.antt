@@ -1,6 +1,6 @@
 -- Where the route lies in the two lent lists: what is left of it is an end part of the zone that the region chooses. The parts of the program that work on the lists promise these;
 -- that they are the steps of routing is proved (proofs/Parts.antt). Assumes nothing.
-use Rattle.std.specs.Prelude.{ℕ, ◌-◌, ◌≡◌, Bool, true, false, cond, List, eqb, length, drop}
+use Rattle.std.specs.Prelude.{ℕ, ◌-◌, ◌≡◌, Bool, true, false, cond, List, eqb, length}
 use Rattle.refusal.specs.declared.Refusal.TheVariants.{RuleBroken, Malformed, ListTooShort}
 use Rattle.plan.specs.declared.Region.{Region}
 use Rattle.plan.specs.declared.Region.TheVariants.{Source, Target}

@@ -1,5 +1,5 @@
 -- What the manual says of routing as a whole (6.6), of a well-formed setup `out` sent and the setup received. Proved in proofs/Properties.antt. Assumes nothing.
-use Rattle.std.specs.Prelude.{ℕ, ◌-◌, ◌≡◌, ◌⊎◌, Bool, true, false, List, ◌∷◌, length, take, drop}
+use Rattle.std.specs.Prelude.{ℕ, ◌-◌, ◌≡◌, ◌⊎◌, true, false, List, ◌∷◌, length, take, drop}
 use Rattle.plan.specs.declared.Region.TheVariants.{Source, Target}
 use Rattle.plan.specs.declared.Plan.{Plan}
 use Rattle.zone.specs.Answer.{zone_at}

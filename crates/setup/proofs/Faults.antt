@@ -1,17 +1,17 @@
 -- What a well-formed setup keeps, and that a setup which keeps it all is well formed; legal strings as a setup holds them. Assumes nothing.
-use mathlib.Core.Path.{◌≡◌, refl, sym, ap, ◌∙◌}
+use mathlib.Core.Path.{◌≡◌, refl}
 use mathlib.Core.Logic.{⊎_elim, ◌↔◌}
-use mathlib.Core.Bool.{Bool, true, false, not, ◌&&◌, cond, false≢true}
+use mathlib.Core.Bool.{true, false, cond, false≢true}
 use mathlib.Core.List.{List}
-use Prim.Native.Nat.{ℕ, ◌-◌, ◌≤◌, ◌<◌, min}
+use Prim.Native.Nat.{ℕ, ◌-◌, ◌≤◌, ◌<◌}
 use native.Mathlib.Omega.{arith}
 use lib.Dec.{eqb, leb}
 use lib.ListN.{length, get_or, take, replicate, length-take, get_or-append}
 use lib.Seq.{get_or-take}
 use borrow.Author.Tests.{leb-true, le-leb}
 use Rattle.typeset.specs.Sets.{every}
-use Rattle.typeset.proofs.Bools.{yes_or_no, clash, and_left, and_right, and-make}
-use Rattle.typeset.proofs.Below.{every-at, every_of, every-ext}
+use Rattle.typeset.proofs.Bools.{yes_or_no, and_left, and_right, and-make}
+use Rattle.typeset.proofs.Below.{every-at, every_of}
 use Rattle.plan.specs.declared.Plan.{Plan}
 use Rattle.zone.specs.Answer.{zone_at}
 use Rattle.setup.specs.declared.Dialled.{Dialled}

@@ -1,5 +1,5 @@
 -- A list stored place by place into 32 places of 0, as the loop of `filled` does it; and what a string or a list is when it is held so. Assumes nothing.
-use mathlib.Core.Path.{◌≡◌, refl, sym, ap, ◌∙◌}
+use mathlib.Core.Path.{◌≡◌, refl, ◌∙◌}
 use mathlib.Core.List.{List}
 use Prim.Native.Nat.{ℕ, ◌+◌, ◌-◌, ◌≤◌, ◌<◌, min}
 use native.Mathlib.Numerals.{add-one}
@@ -9,7 +9,6 @@ use lib.Seq.{sets, drop-cons, get_or-take, take_at, take_all}
 use mathlib.Core.Logic.{⊎_elim}
 use Rattle.typeset.proofs.Laws.{split}
 use Rattle.zone.proofs.Held.{stores-pad}
-use Rattle.setup.specs.declared.Dialled.{Dialled}
 use Rattle.setup.specs.Dialling.{padded, dialled, string_of}
 
 -- what is left of the first 32 bytes of s, stored from place i on

@@ -1,12 +1,9 @@
 -- The table of thirteen, computed. Assumes nothing.
 use mathlib.Core.Path.{◌≡◌, refl}
-use mathlib.Core.List.{List, [], ◌∷◌}
-use Prim.Native.Nat.{ℕ}
-use lib.ListN.{length}
+use mathlib.Core.List.{[], ◌∷◌}
 use Rattle.typeset.specs.Sets.{has, every, some, least, count, set_of, without, lowest, size, minus}
 use Rattle.plan.specs.declared.Region.TheVariants.{Source, Target}
 use Rattle.plan.specs.Parts.{legal, given}
-use Rattle.plan.specs.Sound.{sound}
 use Rattle.plan.specs.Find.{used, first_with, lookup}
 use Rattle.order.specs.Rules.{precedes}
 use Rattle.zone.specs.Order.{held, preceded, unpreceded, next, zone_from, zone_list}
@@ -14,24 +11,20 @@ use Rattle.zone.specs.Answer.{zone_for, zone_at}
 use Rattle.teaching.specs.Teaching.{subscriber, unused, types, source_rows, target_rows, subscribers, teaching}
 use Rattle.teaching.proofs.Changes.{teaching-sound}
 use Rattle.teaching.proofs.Zones.{p1, p2}
-use Rattle.setup.specs.declared.Route.TheVariants.{Suffix, Listed}
+use Rattle.setup.specs.declared.Route.TheVariants.{Suffix}
 use Rattle.setup.specs.declared.Placing.TheVariants.{PlacedBy}
-use Rattle.setup.specs.declared.Outer.{Outer}
 use Rattle.setup.specs.declared.Outer.TheVariants.{NoOuter, OuterAt}
-use Rattle.setup.specs.declared.Setup.{Setup}
 use Rattle.setup.specs.Dialling.{symbol, legal_string, padded, dialled, string_of, legal_dialled}
 use Rattle.setup.specs.Setups.{routing_address, list_of, end_part, in_range, list_fits, fault_in, fault, well_formed}
 use Rattle.embedded.specs.Embedded.{digit, all_digits, number_from, coded, skipped, after_code, writes_address, embedded}
 use Rattle.making.specs.declared.Maker.TheVariants.{Trunk as TrunkBox, Feature as FeatureBox}
-use Rattle.making.specs.declared.Outcome.TheVariants.{Made}
-use Rattle.making.specs.Making.{new_setup, new_outcome, new_outcome_by, further, continued_setup, answered as made_answered, new_answer, reversed_answer}
+use Rattle.making.specs.Making.{new_setup, new_outcome_by, further, continued_setup, answered as made_answered, new_answer, reversed_answer}
 use Rattle.making_examples.specs.Setups.{dialled300, setup_of, p5_sent, p6_received, p6_sent, p7_received, p7_sent, p7_received_at700, p7_sent_again, p8_stored, p8_sent}
 use Rattle.making_examples.proofs.Made.{p5-made, p6-made, p7-made, p7-made-again, p8-made}
-use Rattle.routing.specs.declared.Later.TheVariants.{Nothing}
 use Rattle.routing.specs.declared.Callee.TheVariants.{Feature, Trunk, Resource, Error}
 use Rattle.routing.specs.Interface.{box_of, first_box, found_box, interface_at}
 use Rattle.routing.specs.Steps.{target1, place_of, stands, before, suffix_after, zone2, route2, region3, route3, outer3, callee4, received4, region_of, route_of, callee_of, received_of, left_of}
-use Rattle.routing.specs.Routing.{roomy, settled_by, outcome_by, answered, answer, answer_by}
+use Rattle.routing.specs.Routing.{roomy, settled_by, outcome_by, answered, answer_by}
 use Rattle.journey.specs.Hops.{passed_on}
 use Rattle.thirteen.specs.Table.{made, Routes, received, received_no_string, Thirteen}
 

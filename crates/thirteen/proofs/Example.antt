@@ -1,13 +1,10 @@
 -- Document 01's listing, computed. Assumes nothing.
-use mathlib.Core.Path.{◌≡◌, refl, sym, ap, ◌∙◌}
-use mathlib.Core.List.{List, [], ◌∷◌, ◌++◌}
-use Prim.Native.Nat.{ℕ}
+use mathlib.Core.Path.{◌≡◌, refl}
 use Rattle.typeset.specs.Sets.{has, every, some, least, count, set_of, without, lowest, size, minus}
-use Rattle.plan.specs.declared.Region.TheVariants.{Source, Target}
 use Rattle.plan.specs.Parts.{legal, given}
 use Rattle.plan.specs.Find.{used, first_with, lookup}
 use Rattle.order.specs.Rules.{precedes}
-use Rattle.zone.specs.Order.{held, preceded, unpreceded, next, zone_from, zone_list}
+use Rattle.zone.specs.Order.{preceded, unpreceded, next, zone_from, zone_list}
 use Rattle.zone.specs.Answer.{zone_for, zone_at}
 use Rattle.teaching.specs.Teaching.{subscriber, unused, types, source_rows, target_rows, subscribers, teaching}
 use Rattle.setup.specs.Dialling.{padded, dialled, string_of}

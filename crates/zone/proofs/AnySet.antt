@@ -1,10 +1,10 @@
 -- The laws of a zone (`Members.antt`) for any number as the set: only its types below 32 count. Assumes nothing.
 use mathlib.Core.Path.{◌≡◌, refl, sym, ap, ap₂, ◌∙◌}
-use mathlib.Core.Bool.{Bool, true, ◌&&◌, not, cond}
-use mathlib.Core.List.{List, [], ◌∷◌}
+use mathlib.Core.Bool.{Bool, true, ◌&&◌, not}
+use mathlib.Core.List.{List, ◌∷◌}
 use Prim.Native.Nat.{ℕ, zero, suc, ◌^◌, ◌<◌}
 use lib.Dec.{eqb}
-use Rattle.typeset.specs.Sets.{has, digit, every, some, least, count, set_of, without, lowest, size, minus}
+use Rattle.typeset.specs.Sets.{has, digit, set_of, without, lowest, size, minus}
 use Rattle.typeset.proofs.Below.{set_of-lt, set_of-ext, some-ext, least-ext, count-ext}
 use Rattle.typeset.proofs.Laws.{has-set_of}
 use Rattle.order.specs.Rules.{precedes}

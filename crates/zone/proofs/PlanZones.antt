@@ -1,6 +1,6 @@
 -- The zones of a sound plan (manual 3.4 and 3.5): what an address has in a region, each once, in an order that the precedence allows. Assumes nothing.
 use mathlib.Core.Path.{◌≡◌, refl, sym, ap, ◌∙◌}
-use mathlib.Core.Bool.{Bool, true, false, false≢true}
+use mathlib.Core.Bool.{true, false, false≢true}
 use lib.Dec.{lit≤}
 use mathlib.Core.List.{List, []}
 use Prim.Native.Nat.{ℕ, ◌≤◌, ◌<◌}

@@ -2,16 +2,15 @@
 -- so `next` is the lowest of those. Assumes nothing.
 use mathlib.Core.Path.{◌≡◌, sym, ap, ◌∙◌}
 use mathlib.Core.Logic.{⊎_elim}
-use mathlib.Core.Bool.{Bool, true, false, not, ◌&&◌, ◌||◌, and-false}
+use mathlib.Core.Bool.{Bool, true, false, not, ◌&&◌, and-false}
 use mathlib.Core.List.{List}
 use Prim.Native.Nat.{ℕ, zero, suc, ◌^◌, ◌≤◌, ◌<◌}
 use native.Mathlib.Nat.{not-suc-le-zero, le_antisymm, lt_of_lt_of_le, le_of_suc-le-suc, lt-suc_self}
-use lib.ListN.{get_or}
 use borrow.Author.Tests.{ne_eqb}
-use Rattle.typeset.specs.Sets.{has, every, within, count, lowest}
-use Rattle.typeset.proofs.Bools.{yes_or_no, clash, fails, and_left, and_right, and-make, not-true, not_of_false, imp-at}
-use Rattle.typeset.proofs.Below.{every-at, some_of, some_at, count_less}
-use Rattle.typeset.proofs.Laws.{within-below, has-below, has-empty, lowest-has, lowest-lt, lowest-min}
+use Rattle.typeset.specs.Sets.{has, count, lowest}
+use Rattle.typeset.proofs.Bools.{yes_or_no, clash, fails, and_left, and_right, and-make, not-true, not_of_false}
+use Rattle.typeset.proofs.Below.{some_of, some_at, count_less}
+use Rattle.typeset.proofs.Laws.{has-below, has-empty, lowest-has, lowest-lt, lowest-min}
 use Rattle.plan.specs.declared.Region.{Region}
 use Rattle.plan.specs.declared.Plan.{Plan}
 use Rattle.order.specs.Rules.{precedes}

@@ -1,4 +1,4 @@
--- What the check does not find by itself of `channels::column`. Assumes nothing.
+-- `channels::column` meets its contract. Assumes nothing.
 use Prim.Native.Nat.{ℕ, ◌-◌, ◌≤◌}
 use mathlib.Core.Path.{◌≡◌, refl}
 use native.Mathlib.Omega.{arith}

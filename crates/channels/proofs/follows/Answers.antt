@@ -1,4 +1,4 @@
--- What the check does not find by itself of `channels::follows`. Assumes nothing.
+-- `channels::follows` meets its contract. Assumes nothing.
 use Prim.Native.Nat.{ℕ, ◌+◌, ◌/◌, ◌%◌, ◌<◌}
 use mathlib.Core.Path.{◌≡◌}
 use mathlib.Core.Bool.{Bool}

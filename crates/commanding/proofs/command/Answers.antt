@@ -1,4 +1,4 @@
--- What the check does not find by itself of `commanding::command`. Assumes nothing.
+-- `commanding::command` meets its contract. Assumes nothing.
 use Rattle.commanding.proofs.Turns.{commanded-is}
 use Rattle.commanding.proofs.command.Goals as goal
 

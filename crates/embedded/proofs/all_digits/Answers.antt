@@ -1,12 +1,9 @@
--- What the check does not find by itself of `embedded::all_digits`. Assumes nothing.
+-- `embedded::all_digits` meets its contract. Assumes nothing.
 use mathlib.Core.Path.{◌≡◌, sym}
-use mathlib.Core.Bool.{true}
 use Rattle.typeset.proofs.Bools.{passed, failed}
-use Rattle.typeset.specs.Sets.{every}
 use Rattle.typeset.proofs.Below.{every-none, every_more, every-no}
-use lib.ListN.{length, get_or}
-use Rattle.embedded.specs.Embedded.{digit, all_digits}
-use Prim.Native.Nat.{◌≤◌, ◌<◌, ◌-◌}
+use lib.ListN.{length}
+use Rattle.embedded.specs.Embedded.{all_digits}
 use native.Mathlib.Omega.{arith}
 use borrow.Author.Rules.{rules}
 use Rattle.embedded.proofs.all_digits.Goals as goal

@@ -1,14 +1,10 @@
--- What the check does not find by itself of `embedded::all_digits`. Assumes nothing.
-use mathlib.Core.Path.{◌≡◌, sym}
+-- `embedded::all_digits` meets its contract. The loop's invariant: each byte passed is a digit. Assumes nothing.
+use mathlib.Core.Path.{◌≡◌}
 use mathlib.Core.Bool.{true}
-use Rattle.typeset.proofs.Bools.{passed, failed}
 use Rattle.typeset.specs.Sets.{every}
-use Rattle.typeset.proofs.Below.{every-none, every_more, every-no}
 use lib.ListN.{length, get_or}
-use Rattle.embedded.specs.Embedded.{digit, all_digits}
-use Prim.Native.Nat.{◌≤◌, ◌<◌, ◌-◌}
-use native.Mathlib.Omega.{arith}
-use borrow.Author.Rules.{rules}
+use Rattle.embedded.specs.Embedded.{digit}
+use Prim.Native.Nat.{◌≤◌, ◌-◌}
 use Rattle.embedded.proofs.all_digits.Given as goal
 
 abbrev pub invariant-loop-i : goal.invariant-loop-i

@@ -1,4 +1,4 @@
--- What the check does not find by itself of `embedded::digit`. Assumes nothing.
+-- `embedded::digit` meets its contract. Assumes nothing.
 use borrow.Author.Tests.{le-leb, lt-leb}
 use Rattle.embedded.specs.Embedded.{digit}
 use Rattle.embedded.proofs.digit.Goals as goal

@@ -1,13 +1,12 @@
--- What the check does not find by itself of `embedded::embedded_in`. Assumes nothing.
+-- `embedded::embedded_in` meets its contract. Assumes nothing.
 use mathlib.Core.List.{List}
 use Prim.Native.Nat.{ℕ}
-use mathlib.Core.Path.{◌≡◌, ap, ◌∙◌}
+use mathlib.Core.Path.{ap, ◌∙◌}
 use Prim.Native.Nat.{◌≤◌}
 use lib.ListN.{length}
 use native.Mathlib.Omega.{arith}
 use Rattle.embedded.specs.Embedded.{number_from, after_code, writes_address, dialled, embedded}
 use Rattle.embedded.proofs.Digits.{code_inside, part-from}
-use borrow.Author.Rules.{rules}
 use Rattle.embedded.proofs.embedded_in.Goals as goal
 
 pub slice_bounds-written-count : goal.slice_bounds-written-count

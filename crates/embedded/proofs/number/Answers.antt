@@ -1,9 +1,7 @@
--- What the check does not find by itself of `embedded::number`. Assumes nothing.
+-- `embedded::number` meets its contract. Assumes nothing.
 use mathlib.Core.Path.{◌≡◌, refl, sym, ◌∙◌}
-use lib.ListN.{length, get_or, drop}
-use Rattle.embedded.specs.Embedded.{number_from}
-use Rattle.embedded.proofs.Digits.{digit_at, ten, ten-none, ten-eight, ten-next, number-next, number-done}
-use Prim.Native.Nat.{◌≤◌, ◌<◌, ◌-◌}
+use lib.ListN.{length}
+use Rattle.embedded.proofs.Digits.{digit_at, ten-none, ten-eight, ten-next, number-next, number-done}
 use native.Mathlib.Omega.{arith}
 use borrow.Author.Rules.{rules}
 use Rattle.embedded.proofs.number.Goals as goal

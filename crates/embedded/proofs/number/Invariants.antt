@@ -1,11 +1,9 @@
--- What the check does not find by itself of `embedded::number`. Assumes nothing.
-use mathlib.Core.Path.{◌≡◌, refl, sym, ◌∙◌}
-use lib.ListN.{length, get_or, drop}
+-- `embedded::number` meets its contract. The loop's invariant looks forward: the number of what is left, after what was read, is the whole number. Assumes nothing.
+use mathlib.Core.Path.{◌≡◌}
+use lib.ListN.{length, drop}
 use Rattle.embedded.specs.Embedded.{number_from}
-use Rattle.embedded.proofs.Digits.{digit_at, ten, ten-none, ten-eight, ten-next, number-next, number-done}
+use Rattle.embedded.proofs.Digits.{ten}
 use Prim.Native.Nat.{◌≤◌, ◌<◌, ◌-◌}
-use native.Mathlib.Omega.{arith}
-use borrow.Author.Rules.{rules}
 use Rattle.embedded.proofs.number.Given as goal
 
 abbrev pub invariant-loop-i : goal.invariant-loop-i

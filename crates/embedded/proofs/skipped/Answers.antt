@@ -1,11 +1,8 @@
--- What the check does not find by itself of `embedded::skipped`. Assumes nothing.
+-- `embedded::skipped` meets its contract. Assumes nothing.
 use Rattle.typeset.proofs.Bools.{passed, failed}
-use mathlib.Core.Path.{sym, ◌∙◌}
 use borrow.Author.Tests.{eq-eqb, ne_eqb}
-use mathlib.Core.Bool.{and-false}
 use Rattle.embedded.specs.Embedded.{coded, skipped}
 use Rattle.embedded.proofs.Digits.{no_code}
-use borrow.Author.Rules.{rules}
 use Rattle.embedded.proofs.skipped.Goals as goal
 
 pub returns-then-s-lt3 : goal.returns-then-s-lt3

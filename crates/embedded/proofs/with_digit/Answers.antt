@@ -1,9 +1,8 @@
--- What the check does not find by itself of `embedded::with_digit`. Assumes nothing.
+-- `embedded::with_digit` meets its contract. Assumes nothing.
 use native.Mathlib.Omega.{arith}
 use mathlib.Core.Path.{refl}
 use Rattle.embedded.specs.Embedded.{number_from}
-use Rattle.embedded.proofs.Digits.{digit-from, digit-to}
-use borrow.Author.Rules.{rules}
+use Rattle.embedded.proofs.Digits.{digit-from}
 use Rattle.embedded.proofs.with_digit.Goals as goal
 
 pub overflow_sub-result : goal.overflow_sub-result

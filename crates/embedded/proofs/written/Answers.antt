@@ -1,10 +1,9 @@
--- What the check does not find by itself of `embedded::written`. Assumes nothing.
+-- `embedded::written` meets its contract. Assumes nothing.
 use Rattle.typeset.proofs.Bools.{passed, failed}
 use mathlib.Core.Path.{sym, ap, ◌∙◌}
 use borrow.Author.Tests.{eq-eqb, ne_eqb, le-leb, lt-leb}
 use Rattle.embedded.specs.declared.Dials.TheVariants.{Address}
 use Rattle.embedded.specs.Embedded.{writes_address}
-use borrow.Author.Rules.{rules}
 use Rattle.embedded.proofs.written.Goals as goal
 
 pub returns-then-s-lt1 : goal.returns-then-s-lt1

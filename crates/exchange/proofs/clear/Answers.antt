@@ -1,4 +1,4 @@
--- What the check does not find by itself of `exchange::clear`. Assumes nothing.
+-- `exchange::clear` meets its contract. Assumes nothing.
 use Rattle.std.proofs.Common.{◌∙◌, add-one}
 use Rattle.exchange.proofs.Rows.{one_more}
 use Rattle.exchange.proofs.clear.Goals as goal

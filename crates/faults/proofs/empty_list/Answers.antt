@@ -1,4 +1,4 @@
--- What the check does not find by itself of `faults::empty_list`. Assumes nothing.
+-- `faults::empty_list` meets its contract. Assumes nothing.
 use mathlib.Core.Path.{refl}
 use Rattle.zone.specs.Order.{held}
 use Rattle.faults.proofs.empty_list.Goals as goal

@@ -1,9 +1,8 @@
--- What the check does not find by itself of `faults::fault_in`. Assumes nothing.
+-- `faults::fault_in` meets its contract: the faults one by one. Assumes nothing.
 use Rattle.typeset.proofs.Bools.{passed, failed}
 use mathlib.Core.Path.{sym, ◌∙◌}
 use borrow.Author.Tests.{eq-eqb, ne_eqb}
 use Rattle.setup.specs.Setups.{fault_in}
-use borrow.Author.Rules.{rules}
 use Rattle.faults.proofs.fault_in.Goals as goal
 
 pub returns-then-not-in_range : goal.returns-then-not-in_range

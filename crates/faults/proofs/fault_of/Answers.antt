@@ -1,12 +1,11 @@
--- What the check does not find by itself of `faults::fault_of`. Assumes nothing.
-use mathlib.Core.Path.{◌≡◌, sym, ap, ◌∙◌}
+-- `faults::fault_of` meets its contract: a zone is built only for a list. Assumes nothing.
+use mathlib.Core.Path.{◌≡◌, ap, ◌∙◌}
 use mathlib.Core.List.{List}
 use Prim.Native.Nat.{ℕ}
 use Rattle.zone.specs.Answer.{zone_at}
 use Rattle.setup.specs.Setups.{routing_address, list_of, fault_in, fault, zone_asked}
 use Rattle.setup.proofs.Faults.{asked-enough}
 use Rattle.zone.proofs.Held.{held-list}
-use borrow.Author.Rules.{rules}
 use Rattle.faults.proofs.fault_of.Goals as goal
 
 pub returns : goal.returns

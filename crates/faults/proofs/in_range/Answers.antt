@@ -1,7 +1,6 @@
--- What the check does not find by itself of `faults::in_range`. Assumes nothing.
+-- `faults::in_range` meets its contract. Assumes nothing.
 use Rattle.typeset.proofs.Bools.{passed, failed}
 use Rattle.setup.specs.Setups.{in_range}
-use borrow.Author.Rules.{rules}
 use Rattle.faults.proofs.in_range.Goals as goal
 
 pub returns-then-not-legal : goal.returns-then-not-legal

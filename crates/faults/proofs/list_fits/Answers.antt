@@ -1,13 +1,8 @@
--- What the check does not find by itself of `faults::list_fits`. Assumes nothing.
+-- `faults::list_fits` meets its contract. Assumes nothing.
 use mathlib.Core.Path.{◌≡◌, sym, ◌∙◌}
-use mathlib.Core.Bool.{true}
-use lib.Dec.{eqb}
-use lib.ListN.{length, get_or}
 use borrow.Author.Tests.{eq-eqb, ne_eqb}
-use Rattle.typeset.specs.Sets.{every}
 use Rattle.typeset.proofs.Below.{every-none, every_more, every-no}
 use Rattle.setup.proofs.EndParts.{list-too-long, list-longer, list-places}
-use Prim.Native.Nat.{◌+◌, ◌≤◌, ◌-◌}
 use native.Mathlib.Omega.{arith}
 use borrow.Author.Rules.{rules}
 use Rattle.faults.proofs.list_fits.Goals as goal

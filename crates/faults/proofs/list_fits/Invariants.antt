@@ -1,15 +1,10 @@
--- What the check does not find by itself of `faults::list_fits`. Assumes nothing.
-use mathlib.Core.Path.{◌≡◌, sym, ◌∙◌}
+-- `faults::list_fits` meets its contract. The loop's invariant: each type passed is the zone's at its place. Assumes nothing.
+use mathlib.Core.Path.{◌≡◌}
 use mathlib.Core.Bool.{true}
 use lib.Dec.{eqb}
-use lib.ListN.{length, get_or}
-use borrow.Author.Tests.{eq-eqb, ne_eqb}
+use lib.ListN.{get_or}
 use Rattle.typeset.specs.Sets.{every}
-use Rattle.typeset.proofs.Below.{every-none, every_more, every-no}
-use Rattle.setup.proofs.EndParts.{list-too-long, list-longer, list-places}
 use Prim.Native.Nat.{◌+◌, ◌≤◌, ◌-◌}
-use native.Mathlib.Omega.{arith}
-use borrow.Author.Rules.{rules}
 use Rattle.faults.proofs.list_fits.Given as goal
 
 abbrev pub invariant-loop-i : goal.invariant-loop-i

@@ -1,8 +1,7 @@
--- What the check does not find by itself of `faults::route_fits`. Assumes nothing.
-use mathlib.Core.Path.{◌≡◌, sym, ap, ◌∙◌}
+-- `faults::route_fits` meets its contract. Assumes nothing.
+use mathlib.Core.Path.{sym, ap, ◌∙◌}
 use Rattle.setup.specs.declared.Route.{Route}
 use Rattle.setup.specs.Setups.{list_of, list_fits, route_fits}
-use borrow.Author.Rules.{rules}
 use Rattle.faults.proofs.route_fits.Goals as goal
 
 pub returns-in-Listed : goal.returns-in-Listed

@@ -1,7 +1,6 @@
--- What the check does not find by itself of `faults::well_formed`. Assumes nothing.
+-- `faults::well_formed` meets its contract. Assumes nothing.
 use mathlib.Core.Path.{ap, ◌∙◌}
 use Rattle.setup.specs.Setups.{faultless, well_formed}
-use borrow.Author.Rules.{rules}
 use Rattle.faults.proofs.well_formed.Goals as goal
 
 pub returns : goal.returns

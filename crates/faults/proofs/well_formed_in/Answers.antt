@@ -1,7 +1,6 @@
--- What the check does not find by itself of `faults::well_formed_in`. Assumes nothing.
+-- `faults::well_formed_in` meets its contract. Assumes nothing.
 use mathlib.Core.Path.{ap, ◌∙◌}
 use Rattle.setup.specs.Setups.{faultless}
-use borrow.Author.Rules.{rules}
 use Rattle.faults.proofs.well_formed_in.Goals as goal
 
 pub returns : goal.returns

@@ -1,10 +1,9 @@
--- What the check does not find by itself of `faults::zone_asked`. Assumes nothing.
-use mathlib.Core.Path.{◌≡◌, sym, ap, ◌∙◌}
+-- `faults::zone_asked` meets its contract. Assumes nothing.
+use mathlib.Core.Path.{sym, ap, ◌∙◌}
 use Rattle.zone.specs.Order.{held}
 use Rattle.zone.specs.Answer.{zone_at}
 use Rattle.setup.specs.declared.Route.{Route}
 use Rattle.setup.specs.Setups.{zone_asked}
-use borrow.Author.Rules.{rules}
 use Rattle.faults.proofs.zone_asked.Goals as goal
 
 pub returns-in-Whole : goal.returns-in-Whole

@@ -1,16 +1,12 @@
--- What the check does not find by itself of `journey::desk`. Assumes nothing.
-use mathlib.Core.Path.{◌≡◌, refl, sym, ap, ◌∙◌}
+-- `journey::desk` meets its contract. Assumes nothing.
+use mathlib.Core.Path.{◌≡◌, sym, ap, ◌∙◌}
 use Prim.Native.Nat.{ℕ, ◌+◌, ◌-◌, ◌≤◌, ◌<◌}
 use native.Mathlib.Omega.{arith}
-use mathlib.Core.Bool.{true, false}
 use lib.ListN.{length, take, drop, length-take}
 use Rattle.embedded.specs.Embedded.{writes_address, number_from}
 use Rattle.embedded.proofs.Digits.{part-from}
-use Rattle.making.specs.declared.Maker.TheVariants.{Line}
-use Rattle.making.specs.Making.{new_answer}
-use Rattle.journey.specs.Desk.{space_in, address_text, string_text, desk_text}
+use Rattle.journey.specs.Desk.{space_in, address_text, string_text}
 use Rattle.journey.proofs.Desks.{nobody-writes, somebody-writes, space-within, no-space, no_address, line_read, new-fine}
-use borrow.Author.Rules.{rules}
 use Rattle.journey.proofs.desk.Goals as goal
 
 pub returns-then-line-space : goal.returns-then-line-space

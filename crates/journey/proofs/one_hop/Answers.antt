@@ -1,14 +1,10 @@
--- What the check does not find by itself of `journey::one_hop`. Assumes nothing.
-use mathlib.Core.Path.{◌≡◌, refl, sym, ap, ◌∙◌}
+-- `journey::one_hop` meets its contract. Assumes nothing.
+use mathlib.Core.Path.{◌≡◌}
 use mathlib.Core.Bool.{true, false}
-use lib.Seq.{sets}
 use borrow.Author.Tests.{not-true, not-false}
-use Rattle.routing.specs.declared.Callee.{Callee}
-use Rattle.routing.specs.declared.Answer.{Answer}
 use Rattle.routing.specs.declared.Later.TheVariants.{Nothing}
 use Rattle.routing.specs.Routing.{answer}
-use Rattle.journey.specs.Trips.{callee_in, sent_on, line_of, hop_text, on_the_way, hopped}
-use borrow.Author.Rules.{rules}
+use Rattle.journey.specs.Trips.{callee_in, line_of, hop_text, on_the_way, hopped}
 use Rattle.journey.proofs.one_hop.Goals as goal
 
 pub returns-then-not-trip : goal.returns-then-not-trip

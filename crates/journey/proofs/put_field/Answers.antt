@@ -1,13 +1,9 @@
--- What the check does not find by itself of `journey::put_field`. Assumes nothing.
-use mathlib.Core.Path.{◌≡◌, refl, sym, ap, ◌∙◌}
-use Prim.Native.Nat.{◌≤◌}
+-- `journey::put_field` meets its contract. Assumes nothing.
 use native.Mathlib.Omega.{arith}
 use mathlib.Core.List.{[], ◌∷◌}
-use lib.ListN.{length}
 use Rattle.text.specs.Decimal.{decimal}
 use Rattle.text.proofs.Tens.{decimal-some}
 use Rattle.journey.proofs.Texts.{and_then}
-use borrow.Author.Rules.{rules}
 use Rattle.journey.proofs.put_field.Goals as goal
 
 pub put_bytes-requires : goal.put_bytes-requires

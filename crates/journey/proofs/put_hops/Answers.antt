@@ -1,16 +1,14 @@
--- What the check does not find by itself of `journey::put_hops`. Assumes nothing.
+-- `journey::put_hops` meets its contract. What is still to come, stored from here on, gives the whole. Assumes nothing.
 use mathlib.Core.Path.{◌≡◌, refl, sym, ap, ◌∙◌}
-use mathlib.Core.Bool.{true}
-use mathlib.Core.List.{List, []}
-use Prim.Native.Nat.{ℕ, ◌+◌, ◌-◌, ◌*◌, ◌≤◌, ◌<◌}
+use mathlib.Core.List.{[]}
+use Prim.Native.Nat.{◌+◌}
 use native.Mathlib.Omega.{arith}
 use lib.ListN.{length, length-append}
 use lib.Seq.{sets, length-sets}
 use Rattle.text.proofs.Stores.{sets-both}
-use Rattle.journey.specs.Hops.{journey, hops}
-use Rattle.journey.specs.Listing.{lines}
+use Rattle.journey.specs.Hops.{journey}
 use Rattle.journey.specs.Trips.{hop_text, hopped}
-use Rattle.journey.proofs.Trips.{Way, todo, hop-text, hop-fine, hop-place, text-short, all_done}
+use Rattle.journey.proofs.Trips.{todo, hop-text, hop-fine, hop-place, text-short, all_done}
 use Rattle.journey.proofs.put_hops.Goals as goal
 
 pub loop-hop-init : goal.loop-hop-init

@@ -1,13 +1,10 @@
--- What the check does not find by itself of `journey::put_line`. Assumes nothing.
-use mathlib.Core.Path.{◌≡◌, refl, sym, ap, ◌∙◌}
+-- `journey::put_line` meets its contract. Field after field. Assumes nothing.
 use native.Mathlib.Omega.{arith}
 use mathlib.Core.List.{[], ◌∷◌, ◌++◌}
-use lib.ListN.{length}
 use Rattle.text.specs.Decimal.{decimal}
 use Rattle.text.proofs.Tens.{decimal-some}
 use Rattle.journey.specs.Listing.{kind_word, spaced, line}
 use Rattle.journey.proofs.Texts.{and_then, spaced-short, kind-short}
-use borrow.Author.Rules.{rules}
 use Rattle.journey.proofs.put_line.Goals as goal
 
 pub put_kind-number-requires : goal.put_kind-number-requires

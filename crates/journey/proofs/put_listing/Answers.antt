@@ -1,10 +1,7 @@
--- What the check does not find by itself of `journey::put_listing`. Assumes nothing.
-use mathlib.Core.Path.{◌≡◌, refl, sym, ap, ◌∙◌}
-use lib.ListN.{length}
+-- `journey::put_listing` meets its contract. Assumes nothing.
 use Rattle.journey.specs.Hops.{journey}
 use Rattle.journey.specs.Listing.{head_line, lines, listing}
 use Rattle.journey.proofs.Texts.{and_then, from_start}
-use borrow.Author.Rules.{rules}
 use Rattle.journey.proofs.put_listing.Goals as goal
 
 pub returns : goal.returns

@@ -1,11 +1,10 @@
--- What the check does not find by itself of `journey::put_number`. Assumes nothing.
-use mathlib.Core.Path.{◌≡◌, refl, sym, ap, ◌∙◌}
+-- `journey::put_number` meets its contract. Assumes nothing.
+use mathlib.Core.Path.{sym, ap}
 use Prim.Native.Nat.{◌≤◌}
 use native.Mathlib.Omega.{arith}
-use lib.ListN.{length, take}
+use lib.ListN.{length}
 use Rattle.text.specs.Decimal.{decimal, digits}
 use Rattle.text.proofs.Tens.{digits_are, digits-fit, decimal-some}
-use borrow.Author.Rules.{rules}
 use Rattle.journey.proofs.put_number.Goals as goal
 
 pub slice_bounds-bytes-end : goal.slice_bounds-bytes-end

@@ -1,14 +1,11 @@
--- What the check does not find by itself of `journey::put_refused`. Assumes nothing.
-use mathlib.Core.Path.{◌≡◌, refl, sym, ap, ◌∙◌}
+-- `journey::put_refused` meets its contract. Assumes nothing.
 use mathlib.Core.List.{List, [], ◌∷◌, ◌++◌}
 use Prim.Native.Nat.{ℕ}
 use native.Mathlib.Omega.{arith}
-use lib.ListN.{length}
 use Rattle.text.specs.Decimal.{decimal}
 use Rattle.text.proofs.Tens.{decimal-some}
 use Rattle.journey.specs.Desk.{refused_text}
 use Rattle.journey.proofs.Texts.{and_then, from_start}
-use borrow.Author.Rules.{rules}
 use Rattle.journey.proofs.put_refused.Goals as goal
 
 pub put_bytes-requires : goal.put_bytes-requires

@@ -1,13 +1,5 @@
--- What the check does not find by itself of `journey::put_told`. Assumes nothing.
-use mathlib.Core.Path.{◌≡◌, refl, sym, ap, ◌∙◌}
-use mathlib.Core.List.{List}
-use lib.ListN.{length}
-use lib.Seq.{sets}
-use Prim.Native.Nat.{ℕ}
-use Rattle.making.specs.declared.Outcome.{Outcome}
-use Rattle.making.specs.declared.Outcome.TheVariants.{Made, Refused}
-use Rattle.journey.specs.Desk.{refused_text, told_of, told}
-use borrow.Author.Rules.{rules}
+-- `journey::put_told` meets its contract. Assumes nothing.
+use Rattle.journey.specs.Desk.{told}
 use Rattle.journey.proofs.put_told.Goals as goal
 
 pub put_listing-requires : goal.put_listing-requires

@@ -1,7 +1,5 @@
--- What the check does not find by itself of `journey::space_in`. Assumes nothing.
-use mathlib.Core.Path.{◌≡◌, refl, sym, ap, ◌∙◌}
-use mathlib.Core.Bool.{false}
-use Prim.Native.Nat.{ℕ, ◌+◌, ◌-◌, ◌≤◌, ◌<◌}
+-- `journey::space_in` meets its contract. Assumes nothing.
+use mathlib.Core.Path.{◌≡◌, sym, ◌∙◌}
 use native.Mathlib.Omega.{arith}
 use lib.Dec.{eqb}
 use lib.ListN.{length, get_or}
@@ -9,7 +7,6 @@ use borrow.Author.Count.{below_none, below_more}
 use borrow.Author.Tests.{eq-eqb, ne_eqb}
 use Rattle.typeset.proofs.Below.{least-found, least-none}
 use Rattle.journey.specs.Desk.{space_in}
-use borrow.Author.Rules.{rules}
 use Rattle.journey.proofs.space_in.Goals as goal
 
 pub loop-i-init : goal.loop-i-init

@@ -1,15 +1,9 @@
--- What the check does not find by itself of `journey::space_in`. Assumes nothing.
-use mathlib.Core.Path.{◌≡◌, refl, sym, ap, ◌∙◌}
+-- `journey::space_in` meets its contract. The loop's invariant: no space among the places passed. Assumes nothing.
+use mathlib.Core.Path.{◌≡◌}
 use mathlib.Core.Bool.{false}
-use Prim.Native.Nat.{ℕ, ◌+◌, ◌-◌, ◌≤◌, ◌<◌}
-use native.Mathlib.Omega.{arith}
+use Prim.Native.Nat.{ℕ, ◌-◌, ◌≤◌, ◌<◌}
 use lib.Dec.{eqb}
 use lib.ListN.{length, get_or}
-use borrow.Author.Count.{below_none, below_more}
-use borrow.Author.Tests.{eq-eqb, ne_eqb}
-use Rattle.typeset.proofs.Below.{least-found, least-none}
-use Rattle.journey.specs.Desk.{space_in}
-use borrow.Author.Rules.{rules}
 use Rattle.journey.proofs.space_in.Given as goal
 
 abbrev pub invariant-loop-i : goal.invariant-loop-i

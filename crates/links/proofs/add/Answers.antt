@@ -1,4 +1,4 @@
--- What the check does not find by itself of `links::add`. Assumes nothing.
+-- `links::add` meets its contract. Assumes nothing.
 use mathlib.Core.Path.{sym, ◌∙◌}
 use Rattle.typeset.proofs.Bools.{passed, failed}
 use borrow.Author.Rules.{rules}

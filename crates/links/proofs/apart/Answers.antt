@@ -1,4 +1,4 @@
--- What the check does not find by itself of `links::apart`. Assumes nothing.
+-- `links::apart` meets its contract. Assumes nothing.
 use Rattle.links.specs.Links.{apart}
 use borrow.Author.Rules.{rules}
 use Rattle.links.proofs.apart.Goals as goal

@@ -1,4 +1,4 @@
--- What the check does not find by itself of `links::audible`. Assumes nothing.
+-- `links::audible` meets its contract. Assumes nothing.
 use Rattle.links.specs.Steps.{audible}
 use native.Mathlib.Omega.{arith}
 use borrow.Author.Tests.{ne_eqb}

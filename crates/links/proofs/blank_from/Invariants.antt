@@ -1,4 +1,4 @@
--- What the check does not find by itself of `links::blank_from`. Assumes nothing.
+-- What the loops of `links::blank_from` keep. Assumes nothing.
 use mathlib.Core.Path.{◌≡◌}
 use mathlib.Core.Bool.{◌&&◌}
 use Prim.Native.Nat.{◌-◌}

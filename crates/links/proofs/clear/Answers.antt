@@ -1,4 +1,4 @@
--- What the check does not find by itself of `links::clear`. Assumes nothing.
+-- `links::clear` meets its contract. Assumes nothing.
 use mathlib.Core.Path.{refl, sym, ◌∙◌}
 use Prim.Native.Nat.{◌≤◌}
 use native.Mathlib.Omega.{arith}

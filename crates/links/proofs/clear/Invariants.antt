@@ -1,4 +1,4 @@
--- What the check does not find by itself of `links::clear`. Assumes nothing.
+-- What the loops of `links::clear` keep. Assumes nothing.
 use mathlib.Core.Path.{◌≡◌}
 use Prim.Native.Nat.{◌-◌}
 use lib.ListN.{replicate}

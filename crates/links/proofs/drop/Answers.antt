@@ -1,4 +1,4 @@
--- What the check does not find by itself of `links::drop`. Assumes nothing.
+-- `links::drop` meets its contract. Assumes nothing.
 use mathlib.Core.Path.{ap, ◌∙◌}
 use native.Mathlib.Omega.{arith}
 use lib.ListN.{length}

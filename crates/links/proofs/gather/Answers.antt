@@ -1,4 +1,4 @@
--- What the check does not find by itself of `links::gather`. Assumes nothing.
+-- `links::gather` meets its contract. Assumes nothing.
 use mathlib.Core.Path.{◌≡◌, refl, sym, ap, ◌∙◌}
 use Prim.Native.Nat.{ℕ, ◌+◌, ◌≤◌, ◌<◌}
 use native.Mathlib.Omega.{arith}

@@ -1,4 +1,4 @@
--- What the check does not find by itself of `links::link`. Assumes nothing.
+-- `links::link` meets its contract. Assumes nothing.
 use Rattle.links.specs.Links.{link}
 use borrow.Author.Rules.{rules}
 use borrow.Author.Rules.{rules}

@@ -1,4 +1,4 @@
--- What the check does not find by itself of `links::look`. Assumes nothing.
+-- `links::look` meets its contract. Assumes nothing.
 use mathlib.Core.Path.{◌≡◌, refl, sym, ap, ◌∙◌}
 use mathlib.Core.Bool.{true}
 use Prim.Native.Nat.{◌≤◌, ◌<◌}

@@ -1,4 +1,4 @@
--- What the check does not find by itself of `links::look`. Assumes nothing.
+-- What the loops of `links::look` keep. Assumes nothing.
 use mathlib.Core.Path.{◌≡◌}
 use Prim.Native.Nat.{◌+◌, ◌≤◌}
 use lib.ListN.{length, drop}

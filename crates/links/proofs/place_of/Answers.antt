@@ -1,4 +1,4 @@
--- What the check does not find by itself of `links::place_of`. Assumes nothing.
+-- `links::place_of` meets its contract. Assumes nothing.
 use mathlib.Core.Path.{◌≡◌}
 use Prim.Native.Nat.{◌≤◌, ◌<◌}
 use native.Mathlib.Omega.{arith}

@@ -1,4 +1,4 @@
--- What the check does not find by itself of `links::put_in`. Assumes nothing.
+-- `links::put_in` meets its contract. Assumes nothing.
 use mathlib.Core.Path.{◌≡◌, refl}
 use Prim.Native.Nat.{◌≤◌, ◌<◌}
 use native.Mathlib.Omega.{arith}

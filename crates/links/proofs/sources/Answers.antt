@@ -1,4 +1,4 @@
--- What the check does not find by itself of `links::sources`. Assumes nothing.
+-- `links::sources` meets its contract. Assumes nothing.
 use Rattle.typeset.proofs.Bools.{passed, failed}
 use borrow.Author.Rules.{rules}
 use Rattle.links.proofs.Laws.{listed-no-set, listed-done}

@@ -1,4 +1,4 @@
--- What the check does not find by itself of `links::stays`. Assumes nothing.
+-- `links::stays` meets its contract. Assumes nothing.
 use Rattle.links.specs.Steps.{stays}
 use native.Mathlib.Omega.{arith}
 use borrow.Author.Tests.{ne_eqb}

@@ -1,4 +1,4 @@
--- What the check does not find by itself of `links::to_front`. Assumes nothing.
+-- `links::to_front` meets its contract. Assumes nothing.
 use mathlib.Core.Path.{◌≡◌, refl, sym, ap, ◌∙◌}
 use mathlib.Core.Bool.{true, false}
 use mathlib.Core.List.{List}

@@ -1,4 +1,4 @@
--- What the check does not find by itself of `links::touches`. Assumes nothing.
+-- `links::touches` meets its contract. Assumes nothing.
 use Rattle.links.specs.Links.{touches}
 use borrow.Author.Tests.{eq-eqb, ne_eqb}
 use Rattle.links.proofs.touches.Goals as goal

@@ -1,6 +1,5 @@
--- What the check does not find by itself of `made::continued_of`. Assumes nothing.
+-- `made::continued_of` meets its contract. Assumes nothing.
 use Rattle.made.specs.Made.{continued_setup}
-use borrow.Author.Rules.{rules}
 use Rattle.made.proofs.continued_of.Goals as goal
 
 pub returns : goal.returns

@@ -1,4 +1,4 @@
--- What the check does not find by itself of `made::empty_list`. Assumes nothing.
+-- `made::empty_list` meets its contract. Assumes nothing.
 use mathlib.Core.Path.{refl}
 use Rattle.zone.specs.Order.{held}
 use Rattle.made.proofs.empty_list.Goals as goal

@@ -1,8 +1,7 @@
--- What the check does not find by itself of `made::further`. Assumes nothing.
+-- `made::further` meets its contract. Assumes nothing.
 use mathlib.Core.Path.{sym, ◌∙◌}
 use borrow.Author.Tests.{eq-eqb, ne_eqb}
 use Rattle.made.specs.Made.{further}
-use borrow.Author.Rules.{rules}
 use Rattle.made.proofs.further.Goals as goal
 
 pub returns-then-given-eq0 : goal.returns-then-given-eq0

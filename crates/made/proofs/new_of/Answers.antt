@@ -1,10 +1,5 @@
--- What the check does not find by itself of `made::new_of`. Assumes nothing.
-use Rattle.plan.specs.declared.Region.TheVariants.{Source}
-use Rattle.setup.specs.declared.Route.TheVariants.{Whole}
-use Rattle.setup.specs.declared.Placing.TheVariants.{NoPlacing}
-use Rattle.setup.specs.declared.Outer.TheVariants.{OuterAt}
+-- `made::new_of` meets its contract. Assumes nothing.
 use Rattle.made.specs.Made.{new_setup}
-use borrow.Author.Rules.{rules}
 use Rattle.made.proofs.new_of.Goals as goal
 
 pub returns : goal.returns

@@ -1,6 +1,5 @@
--- What the check does not find by itself of `made::reversed_of`. Assumes nothing.
+-- `made::reversed_of` meets its contract. Assumes nothing.
 use Rattle.made.specs.Made.{reversed_setup}
-use borrow.Author.Rules.{rules}
 use Rattle.made.proofs.reversed_of.Goals as goal
 
 pub returns : goal.returns

@@ -1,7 +1,6 @@
--- What the check does not find by itself of `making::address_held`. Assumes nothing.
+-- `making::address_held` meets its contract. Assumes nothing.
 use mathlib.Core.Path.{sym, ap, ◌∙◌}
 use Rattle.making.proofs.Shown.{held_by, held-shown}
-use borrow.Author.Rules.{rules}
 use Rattle.making.proofs.address_held.Goals as goal
 
 pub returns-in-Feature : goal.returns-in-Feature

@@ -1,8 +1,5 @@
--- What the check does not find by itself of `making::answered`. Assumes nothing.
-use mathlib.Core.Path.{sym, ap, ◌∙◌}
-use Rattle.making.specs.declared.Outcome.{Outcome}
+-- `making::answered` meets its contract. Assumes nothing.
 use Rattle.making.specs.Making.{answered}
-use borrow.Author.Rules.{rules}
 use Rattle.making.proofs.answered.Goals as goal
 
 pub returns-in-Made : goal.returns-in-Made

@@ -1,8 +1,7 @@
--- What the check does not find by itself of `making::continuable`. Assumes nothing.
+-- `making::continuable` meets its contract. Assumes nothing.
 use mathlib.Core.Path.{◌∙◌}
 use Rattle.typeset.proofs.Bools.{passed, failed}
 use Rattle.making.proofs.Shown.{well-formed-by}
-use borrow.Author.Rules.{rules}
 use Rattle.making.proofs.continuable.Goals as goal
 
 pub returns-then-not-well_formed_in : goal.returns-then-not-well_formed_in

@@ -1,6 +1,4 @@
--- What the check does not find by itself of `making::continued_outcome`. Assumes nothing.
-use borrow.Author.Rules.{rules}
-use mathlib.Core.Path.{refl}
+-- `making::continued_outcome` meets its contract: one expression, as the definition has it. Assumes nothing.
 use Rattle.plan.proofs.Sight.{seen_first}
 use Rattle.making.specs.Making.{continued_outcome_by}
 use Rattle.making.proofs.Shown.{existing-seen, reversible-seen}

@@ -1,11 +1,10 @@
--- What the check does not find by itself of `making::continued_seen`. Assumes nothing.
+-- `making::continued_seen` meets its contract. Assumes nothing.
 use mathlib.Core.Path.{◌≡◌, ap, ap₂, ◌∙◌}
 use Rattle.making.specs.Making.{box_address, continued_setup, continued_outcome_by, answered, continued_answer_by}
 use Rattle.making.proofs.Outcomes.{answered-alike, legal-all, continued-made-by}
 use mathlib.Core.List.{List}
 use Prim.Native.Nat.{ℕ}
 use lib.ListN.{take}
-use borrow.Author.Rules.{rules}
 use Rattle.making.proofs.continued_seen.Goals as goal
 
 pub returns : goal.returns

@@ -1,8 +1,7 @@
--- What the check does not find by itself of `making::continued_setup`. Assumes nothing.
+-- `making::continued_setup` meets its contract: it hands on the verdict that it has found. Assumes nothing.
 use mathlib.Core.Path.{◌≡◌}
 use Rattle.making.specs.Making.{continued_answer}
 use Rattle.making.proofs.Numbered.{continued-said}
-use borrow.Author.Rules.{rules}
 use Rattle.making.proofs.continued_setup.Goals as goal
 
 pub returns : goal.returns

@@ -1,4 +1,4 @@
--- What the check does not find by itself of `making::new_seen`. Assumes nothing.
+-- `making::new_seen` meets its contract. Assumes nothing.
 use mathlib.Core.Path.{◌≡◌, ap, ap₂, ◌∙◌}
 use Rattle.making.specs.Making.{box_address, new_setup, new_outcome_by, answered, new_answer_by}
 use Rattle.plan.proofs.Sight.{seen_first}
@@ -7,7 +7,6 @@ use Rattle.making.proofs.Outcomes.{answered-alike, legal-all, new-made-by}
 use mathlib.Core.List.{List}
 use Prim.Native.Nat.{ℕ}
 use lib.ListN.{take}
-use borrow.Author.Rules.{rules}
 use Rattle.making.proofs.new_seen.Goals as goal
 
 pub returns : goal.returns

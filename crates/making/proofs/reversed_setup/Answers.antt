@@ -1,8 +1,7 @@
--- What the check does not find by itself of `making::reversed_setup`. Assumes nothing.
+-- `making::reversed_setup` meets its contract: it hands on the verdict that it has found. Assumes nothing.
 use mathlib.Core.Path.{◌≡◌}
 use Rattle.making.specs.Making.{reversed_answer}
 use Rattle.making.proofs.Numbered.{reversed-said}
-use borrow.Author.Rules.{rules}
 use Rattle.making.proofs.reversed_setup.Goals as goal
 
 pub returns : goal.returns

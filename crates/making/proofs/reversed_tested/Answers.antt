@@ -1,7 +1,6 @@
--- What the check does not find by itself of `making::reversed_tested`. Assumes nothing.
+-- `making::reversed_tested` meets its contract: it looks at the plan, and hands on what it has seen. Assumes nothing.
 use mathlib.Core.Path.{sym, ap₂, ◌∙◌}
 use Rattle.plan.specs.Find.{seen}
-use borrow.Author.Rules.{rules}
 use Rattle.making.proofs.reversed_tested.Goals as goal
 
 pub returns : goal.returns

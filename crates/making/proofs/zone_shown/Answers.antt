@@ -1,8 +1,7 @@
--- What the check does not find by itself of `making::zone_shown`. Assumes nothing.
+-- `making::zone_shown` meets its contract. Assumes nothing.
 use mathlib.Core.Path.{sym, ap, ◌∙◌}
 use Rattle.zone.specs.Order.{held}
 use Rattle.making.proofs.Shown.{source-zone-seen, target-zone-seen}
-use borrow.Author.Rules.{rules}
 use Rattle.making.proofs.zone_shown.Goals as goal
 
 pub returns-in-Source : goal.returns-in-Source

@@ -1,4 +1,4 @@
--- What the check does not find by itself of `order::carries`. Assumes nothing.
+-- `order::carries` meets its contract. Assumes nothing.
 use mathlib.Core.Path.{sym, ◌∙◌}
 use Rattle.typeset.proofs.Laws.{has-below}
 use Rattle.order.specs.Steps.{carries}

@@ -1,4 +1,4 @@
--- What the check does not find by itself of `order::closed`. Assumes nothing.
+-- `order::closed` meets its contract. The loop's invariant: what is asked of the row's types is what is asked of those left. Assumes nothing.
 use Rattle.typeset.specs.Sets.{size}
 use Rattle.typeset.proofs.Taken.{Asks}
 use Rattle.order.specs.Steps.{carries}

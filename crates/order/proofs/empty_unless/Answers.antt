@@ -1,4 +1,4 @@
--- What the check does not find by itself of `order::empty_unless`. Assumes nothing.
+-- `order::empty_unless` meets its contract. Assumes nothing.
 use mathlib.Core.Path.{sym, ◌∙◌}
 use Rattle.order.specs.Steps.{empty_unless}
 use Rattle.order.proofs.empty_unless.Goals as goal

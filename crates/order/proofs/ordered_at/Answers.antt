@@ -1,4 +1,4 @@
--- What the check does not find by itself of `order::ordered_at`. Assumes nothing.
+-- `order::ordered_at` meets its contract. Assumes nothing.
 use mathlib.Core.Path.{sym}
 use borrow.Author.Rules.{rules}
 use Rattle.typeset.proofs.Bools.{passed, failed}

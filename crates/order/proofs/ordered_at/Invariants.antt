@@ -1,4 +1,4 @@
--- What the check does not find by itself of `order::ordered_at`. Assumes nothing.
+-- `order::ordered_at` meets its contract. The loop's invariant: what is asked of the types beside a is what is asked of those left. Assumes nothing.
 use Rattle.typeset.specs.Sets.{size}
 use Rattle.typeset.proofs.Taken.{Asks}
 use Rattle.order.specs.Steps.{pair_ordered}

@@ -1,4 +1,4 @@
--- What the check does not find by itself of `order::pair_opposed`. Assumes nothing.
+-- `order::pair_opposed` meets its contract. Assumes nothing.
 use Rattle.typeset.proofs.Bools.{passed, failed}
 use Rattle.order.specs.Rules.{precedes}
 use Rattle.order.specs.Steps.{pair_opposed}

@@ -1,4 +1,4 @@
--- What the check does not find by itself of `order::pair_ordered`. Assumes nothing.
+-- `order::pair_ordered` meets its contract. Assumes nothing.
 use Rattle.typeset.proofs.Bools.{passed, failed}
 use mathlib.Core.Path.{sym, ◌∙◌}
 use Rattle.order.specs.Rules.{precedes}

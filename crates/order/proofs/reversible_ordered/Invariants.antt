@@ -1,4 +1,4 @@
--- What the check does not find by itself of `order::reversible_ordered`. Assumes nothing.
+-- `order::reversible_ordered` meets its contract. The loop's invariant: what is asked of the reversible types is what is asked of those left. Assumes nothing.
 use Rattle.typeset.specs.Sets.{size}
 use Rattle.typeset.proofs.Taken.{Asks}
 use Rattle.order.specs.Steps.{ordered_at}

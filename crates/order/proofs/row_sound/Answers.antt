@@ -1,4 +1,4 @@
--- What the check does not find by itself of `order::row_sound`. Assumes nothing.
+-- `order::row_sound` meets its contract. Assumes nothing.
 use Rattle.typeset.proofs.Bools.{passed, failed}
 use mathlib.Core.Path.{sym, ◌∙◌}
 use Rattle.order.specs.Steps.{row_sound}

@@ -1,4 +1,4 @@
--- What the check does not find by itself of `order::two_of`. Assumes nothing.
+-- `order::two_of` meets its contract. Assumes nothing.
 use Rattle.typeset.proofs.Bools.{passed, failed}
 use Rattle.order.specs.Rules.{two_of}
 use Rattle.order.proofs.two_of.Goals as goal

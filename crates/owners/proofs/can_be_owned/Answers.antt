@@ -1,4 +1,4 @@
--- What the check does not find by itself of `owners::can_be_owned`. Assumes nothing.
+-- `owners::can_be_owned` meets its contract. Assumes nothing.
 use mathlib.Core.Path.{refl}
 use Rattle.owners.specs.Who.{can_be_owned}
 use Rattle.owners.proofs.can_be_owned.Goals as goal

@@ -1,4 +1,4 @@
--- What the check does not find by itself of `owners::delete_as`. Assumes nothing.
+-- `owners::delete_as` meets its contract. Assumes nothing.
 use Rattle.owners.proofs.delete_as.Goals as goal
 
 pub returns : goal.returns

@@ -1,4 +1,4 @@
--- What the check does not find by itself of `owners::feature_of`. Assumes nothing.
+-- `owners::feature_of` meets its contract. Assumes nothing.
 use mathlib.Core.Path.{sym, ◌∙◌}
 use Rattle.typeset.proofs.Laws.{has-below}
 use Rattle.owners.specs.Who.{feature_of}

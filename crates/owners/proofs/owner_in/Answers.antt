@@ -1,4 +1,4 @@
--- What the check does not find by itself of `owners::owner_in`. Assumes nothing.
+-- `owners::owner_in` meets its contract. Assumes nothing.
 use native.Mathlib.Omega.{arith}
 use borrow.Author.Rules.{rules}
 use borrow.Author.Count.{below_none, below_more}

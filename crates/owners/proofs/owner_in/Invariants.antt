@@ -1,4 +1,4 @@
--- What the check does not find by itself of `owners::owner_in`. Assumes nothing.
+-- What the loops of `owners::owner_in` keep. Assumes nothing.
 use mathlib.Core.Path.{◌≡◌}
 use mathlib.Core.Bool.{false}
 use Prim.Native.Nat.{ℕ, ◌≤◌, ◌<◌, ◌*◌}

@@ -1,4 +1,4 @@
--- What the check does not find by itself of `owners::read_as`. Assumes nothing.
+-- `owners::read_as` meets its contract. Assumes nothing.
 use Rattle.owners.proofs.read_as.Goals as goal
 
 pub returns : goal.returns

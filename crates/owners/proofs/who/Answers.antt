@@ -1,4 +1,4 @@
--- What the check does not find by itself of `owners::who`. Assumes nothing.
+-- `owners::who` meets its contract. Assumes nothing.
 use mathlib.Core.Path.{◌∙◌}
 use Rattle.owners.proofs.Owners.{by-shown}
 use Rattle.owners.proofs.who.Goals as goal

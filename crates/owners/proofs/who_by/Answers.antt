@@ -1,4 +1,4 @@
--- What the check does not find by itself of `owners::who_by`. Assumes nothing.
+-- `owners::who_by` meets its contract. Assumes nothing.
 use mathlib.Core.Path.{sym, ◌∙◌}
 use Rattle.owners.specs.Who.{who_by}
 use Rattle.owners.proofs.who_by.Goals as goal

@@ -1,4 +1,4 @@
--- What the check does not find by itself of `owners::write_as`. Assumes nothing.
+-- `owners::write_as` meets its contract. Assumes nothing.
 use Rattle.owners.proofs.write_as.Goals as goal
 
 pub returns : goal.returns

@@ -1,4 +1,4 @@
--- What the check does not find by itself of `placing::place`. Assumes nothing.
+-- `placing::place` meets its contract. Assumes nothing.
 use Rattle.std.proofs.Common.{length}
 use Rattle.placing.proofs.Settles.{answers-placed, leaves-row}
 use Rattle.placing.proofs.place.Goals as goal

@@ -1,4 +1,4 @@
--- What the check does not find by itself of `placing::place_port`. Assumes nothing.
+-- `placing::place_port` meets its contract. Assumes nothing.
 use Rattle.std.proofs.Common.{length}
 use Rattle.placing.proofs.Settles.{port-placed, port-record}
 use Rattle.placing.proofs.place_port.Goals as goal

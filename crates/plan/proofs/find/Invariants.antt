@@ -1,4 +1,4 @@
--- What the check does not find by itself of `plan::find`. Assumes nothing.
+-- `plan::find` meets its contract. The loop's invariant: no place passed has the address. Assumes nothing.
 use mathlib.Core.Path.{◌≡◌}
 use mathlib.Core.Bool.{false}
 use Prim.Native.Nat.{ℕ, ◌≤◌, ◌<◌, ◌-◌}

@@ -1,4 +1,4 @@
--- What the check does not find by itself of `plan::given`. Assumes nothing.
+-- `plan::given` meets its contract. Assumes nothing.
 use Rattle.typeset.proofs.Bools.{passed, failed}
 use Rattle.plan.specs.Parts.{given}
 use Rattle.plan.proofs.given.Goals as goal

@@ -1,4 +1,4 @@
--- What the check does not find by itself of `plan::holder`. Assumes nothing.
+-- `plan::holder` meets its contract. Assumes nothing.
 use mathlib.Core.Path.{refl, sym, ◌∙◌}
 use native.Mathlib.Omega.{arith}
 use Rattle.plan.specs.Find.{holder_at}

@@ -1,4 +1,4 @@
--- What the check does not find by itself of `plan::legal`. Assumes nothing.
+-- `plan::legal` meets its contract. Assumes nothing.
 use Rattle.plan.specs.Parts.{legal}
 use mathlib.Core.Path.{refl}
 use Rattle.plan.proofs.legal.Goals as goal

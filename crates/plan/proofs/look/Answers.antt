@@ -1,4 +1,4 @@
--- What the check does not find by itself of `plan::look`. Assumes nothing.
+-- `plan::look` meets its contract. Assumes nothing.
 use mathlib.Core.Path.{refl}
 use Rattle.plan.specs.Find.{seen}
 use Rattle.plan.proofs.look.Goals as goal

@@ -1,10 +1,6 @@
--- What the check does not find by itself of `planback::all_bytes`. Assumes nothing.
-use mathlib.Core.Path.{◌≡◌}
-use Prim.Native.Nat.{◌+◌, ◌-◌, ◌<◌, ◌≤◌}
+-- `planback::all_bytes` meets its contract. Assumes nothing.
 use native.Mathlib.Omega.{arith}
 use borrow.Author.Rules.{rules}
-use lib.ListN.{length, take}
-use Rattle.planbytes.specs.Numbers.{Below}
 use Rattle.planback.proofs.Ranges.{below_none, below_more, below_all}
 use Rattle.planback.proofs.all_bytes.Goals as goal
 

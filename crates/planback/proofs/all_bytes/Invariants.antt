@@ -1,11 +1,8 @@
--- What the check does not find by itself of `planback::all_bytes`. Assumes nothing.
+-- What the loops of `planback::all_bytes` keep. Assumes nothing.
 use mathlib.Core.Path.{◌≡◌}
-use Prim.Native.Nat.{◌+◌, ◌-◌, ◌<◌, ◌≤◌}
-use native.Mathlib.Omega.{arith}
-use borrow.Author.Rules.{rules}
+use Prim.Native.Nat.{◌≤◌}
 use lib.ListN.{length, take}
 use Rattle.planbytes.specs.Numbers.{Below}
-use Rattle.planback.proofs.Ranges.{below_none, below_more, below_all}
 use Rattle.planback.proofs.all_bytes.Given as goal
 
 abbrev pub invariant-loop-i : goal.invariant-loop-i

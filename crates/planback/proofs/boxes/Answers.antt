@@ -1,10 +1,9 @@
--- What the check does not find by itself of `planback::boxes`. Assumes nothing.
+-- `planback::boxes` meets its contract. Assumes nothing.
 use mathlib.Core.Path.{◌≡◌}
-use Prim.Native.Nat.{◌^◌, ◌+◌, ◌-◌, ◌<◌, ◌≤◌}
+use Prim.Native.Nat.{◌^◌}
 use native.Mathlib.Omega.{arith}
 use borrow.Author.Rules.{rules}
-use lib.ListN.{length, take}
-use Rattle.planbytes.specs.Numbers.{Below}
+use lib.ListN.{length}
 use Rattle.planback.proofs.Ranges.{below_none, below_more, below_all}
 use Rattle.planback.proofs.boxes.Goals as goal
 

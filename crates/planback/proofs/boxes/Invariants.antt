@@ -1,11 +1,7 @@
--- What the check does not find by itself of `planback::boxes`. Assumes nothing.
-use mathlib.Core.Path.{◌≡◌}
-use Prim.Native.Nat.{◌^◌, ◌+◌, ◌-◌, ◌<◌, ◌≤◌}
-use native.Mathlib.Omega.{arith}
-use borrow.Author.Rules.{rules}
-use lib.ListN.{length, take}
+-- What the loops of `planback::boxes` keep. Assumes nothing.
+use Prim.Native.Nat.{◌^◌, ◌≤◌}
+use lib.ListN.{take}
 use Rattle.planbytes.specs.Numbers.{Below}
-use Rattle.planback.proofs.Ranges.{below_none, below_more, below_all}
 use Rattle.planback.proofs.boxes.Given as goal
 
 abbrev pub invariant-loop-x : goal.invariant-loop-x

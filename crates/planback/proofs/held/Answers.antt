@@ -1,5 +1,4 @@
--- What the check does not find by itself of `planback::held`. Assumes nothing.
-use borrow.Author.Rules.{rules}
+-- `planback::held` meets its contract. Assumes nothing.
 use Rattle.planbytes.specs.Numbers.{Below}
 use Rattle.planback.proofs.held.Goals as goal
 

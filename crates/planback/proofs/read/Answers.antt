@@ -1,10 +1,6 @@
--- What the check does not find by itself of `planback::read`. Assumes nothing.
-use mathlib.Core.Path.{◌≡◌, sym, ap, ◌∙◌}
-use Rattle.plan.specs.declared.Verdict.TheVariants.{Sound}
-use Rattle.planread.specs.declared.Reading.{Reading}
-use Rattle.planread.specs.Reading.{read_of, accepted}
+-- `planback::read` meets its contract: what the reader accepts is sound. Assumes nothing.
+use mathlib.Core.Path.{sym, ◌∙◌}
 use Rattle.planfile.proofs.Theorems.{read-sound}
-use borrow.Author.Rules.{rules}
 use Rattle.planback.proofs.Again.{as-accepted}
 use Rattle.planback.proofs.read.Goals as goal
 

@@ -1,11 +1,8 @@
--- What the check does not find by itself of `planback::rewrite`. Assumes nothing.
-use mathlib.Core.Path.{◌≡◌, sym, ap, ◌∙◌}
+-- `planback::rewrite` meets its contract: what is accepted is the file of its plan. Assumes nothing.
+use mathlib.Core.Path.{sym}
 use native.Mathlib.Omega.{arith}
 use Prim.Native.Nat.{◌≤◌}
 use lib.ListN.{length}
-use lib.Seq.{take-length}
-use Rattle.planwrite.specs.declared.Written.TheVariants.{Bytes}
-use borrow.Author.Rules.{rules}
 use Rattle.planback.proofs.Again.{again-refused, again-short, again-fits}
 use Rattle.planback.proofs.rewrite.Goals as goal
 

@@ -1,11 +1,9 @@
--- What the check does not find by itself of `planback::scan`. Assumes nothing.
-use mathlib.Core.Path.{◌≡◌, sym, ap, ◌∙◌}
-use Rattle.plan.specs.declared.Verdict.TheVariants.{Sound}
+-- `planback::scan` meets its contract: what is accepted is sound. Assumes nothing.
+use mathlib.Core.Path.{sym, ap, ◌∙◌}
 use Rattle.planread.specs.declared.Sight.{Sight}
 use Rattle.planread.specs.Reading.{read_of}
 use Rattle.planread.specs.Scanning.{scanned}
 use Rattle.planfile.proofs.Theorems.{read-sound}
-use borrow.Author.Rules.{rules}
 use Rattle.planback.proofs.Again.{as-accepted}
 use Rattle.planback.proofs.scan.Goals as goal
 

@@ -1,5 +1,4 @@
--- What the check does not find by itself of `planback::subscriber`. Assumes nothing.
-use borrow.Author.Rules.{rules}
+-- `planback::subscriber` meets its contract. Assumes nothing.
 use Rattle.planbytes.specs.Numbers.{Below}
 use Rattle.planback.proofs.subscriber.Goals as goal
 

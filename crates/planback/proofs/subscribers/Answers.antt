@@ -1,10 +1,8 @@
--- What the check does not find by itself of `planback::subscribers`. Assumes nothing.
+-- `planback::subscribers` meets its contract. Assumes nothing.
 use mathlib.Core.Path.{◌≡◌}
-use Prim.Native.Nat.{◌-◌, ◌≤◌}
 use native.Mathlib.Omega.{arith}
 use borrow.Author.Rules.{rules}
-use lib.ListN.{length, take}
-use Rattle.planfile.specs.Typed.{AllTyped}
+use lib.ListN.{length}
 use Rattle.planback.proofs.Ranges.{typed-none, typed-more, typed-all}
 use Rattle.planback.proofs.subscribers.Goals as goal
 

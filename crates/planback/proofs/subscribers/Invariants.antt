@@ -1,11 +1,7 @@
--- What the check does not find by itself of `planback::subscribers`. Assumes nothing.
-use mathlib.Core.Path.{◌≡◌}
-use Prim.Native.Nat.{◌-◌, ◌≤◌}
-use native.Mathlib.Omega.{arith}
-use borrow.Author.Rules.{rules}
-use lib.ListN.{length, take}
+-- What the loops of `planback::subscribers` keep. Assumes nothing.
+use Prim.Native.Nat.{◌≤◌}
+use lib.ListN.{take}
 use Rattle.planfile.specs.Typed.{AllTyped}
-use Rattle.planback.proofs.Ranges.{typed-none, typed-more, typed-all}
 use Rattle.planback.proofs.subscribers.Given as goal
 
 abbrev pub invariant-loop-i : goal.invariant-loop-i

@@ -1,7 +1,6 @@
--- What the check does not find by itself of `planback::there_and_back`. Assumes nothing.
+-- `planback::there_and_back` meets its contract. Assumes nothing.
 use native.Mathlib.Omega.{arith}
 use Rattle.planback.proofs.Again.{back-room, back_read, back-refused}
-use borrow.Author.Rules.{rules}
 use Rattle.planback.proofs.there_and_back.Goals as goal
 
 pub read_first-requires : goal.read_first-requires

@@ -1,6 +1,5 @@
--- What the check does not find by itself of `planback::unwritten`. Assumes nothing.
+-- `planback::unwritten` meets its contract. Assumes nothing.
 use Rattle.planback.proofs.Again.{beside-refusal}
-use borrow.Author.Rules.{rules}
 use Rattle.planback.proofs.unwritten.Goals as goal
 
 pub returns : goal.returns

@@ -1,7 +1,6 @@
--- What the check does not find by itself of `planread::allowed`. Assumes nothing.
+-- `planread::allowed` meets its contract. Assumes nothing.
 use borrow.Author.Tests.{lt-ltb, le-ltb, eq-eqb, ne_eqb}
 use Rattle.planread.specs.Reading.{allowed}
-use borrow.Author.Rules.{rules}
 use Rattle.planread.proofs.allowed.Goals as goal
 
 pub returns-then-stage-lt4 : goal.returns-then-stage-lt4

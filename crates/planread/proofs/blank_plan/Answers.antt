@@ -1,6 +1,5 @@
--- What the check does not find by itself of `planread::blank_plan`. Assumes nothing.
+-- `planread::blank_plan` meets its contract. Assumes nothing.
 use Rattle.planread.specs.Reading.{blank_plan}
-use borrow.Author.Rules.{rules}
 use Rattle.planread.proofs.blank_plan.Goals as goal
 
 pub returns : goal.returns

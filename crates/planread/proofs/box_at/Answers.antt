@@ -1,6 +1,5 @@
--- What the check does not find by itself of `planread::box_at`. Assumes nothing.
+-- `planread::box_at` meets its contract. Assumes nothing.
 use borrow.Author.Tests.{lt-ltb, le-ltb}
-use borrow.Author.Rules.{rules}
 use Rattle.planread.proofs.box_at.Goals as goal
 
 pub returns-then-x-count : goal.returns-then-x-count

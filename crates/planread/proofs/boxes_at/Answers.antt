@@ -1,6 +1,5 @@
--- What the check does not find by itself of `planread::boxes_at`. Assumes nothing.
+-- `planread::boxes_at` meets its contract. Assumes nothing.
 use Rattle.planread.proofs.Fields.{boxes-are}
-use borrow.Author.Rules.{rules}
 use Rattle.planread.proofs.boxes_at.Goals as goal
 
 pub returns : goal.returns

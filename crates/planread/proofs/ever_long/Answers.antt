@@ -1,7 +1,6 @@
--- What the check does not find by itself of `planread::ever_long`. Assumes nothing.
+-- `planread::ever_long` meets its contract. Assumes nothing.
 use borrow.Author.Tests.{eq-eqb, ne_eqb}
 use Rattle.planread.specs.Reading.{ever_long}
-use borrow.Author.Rules.{rules}
 use Rattle.planread.proofs.ever_long.Goals as goal
 
 pub returns-then-tag-eq1 : goal.returns-then-tag-eq1

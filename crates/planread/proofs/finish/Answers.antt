@@ -1,4 +1,4 @@
--- What the check does not find by itself of `planread::finish`. Assumes nothing.
+-- `planread::finish` meets its contract. Assumes nothing.
 use mathlib.Core.Path.{◌≡◌}
 use native.Mathlib.Omega.{arith}
 use lib.ListN.{length, drop, length-drop}
@@ -6,7 +6,6 @@ use lib.Dec.{eqb}
 use mathlib.Core.Bool.{true, false}
 use borrow.Author.Tests.{eq-eqb, ne_eqb}
 use Rattle.planread.specs.Reading.{ended}
-use borrow.Author.Rules.{rules}
 use Rattle.planread.proofs.finish.Goals as goal
 
 pub returns-then-at-bytes : goal.returns-then-at-bytes

@@ -1,10 +1,9 @@
--- What the check does not find by itself of `planread::fixed`. Assumes nothing.
+-- `planread::fixed` meets its contract. Assumes nothing.
 use mathlib.Core.Path.{sym, ◌∙◌}
 use native.Mathlib.Omega.{arith}
 use Rattle.planread.proofs.Turns.{version-room, version-broken, version-on, version-refused}
 use borrow.Author.Tests.{eq-eqb, ne_eqb}
 use Rattle.planread.proofs.Onward.{not_on}
-use borrow.Author.Rules.{rules}
 use Rattle.planread.proofs.fixed.Goals as goal
 
 pub bounds-bytes-3 : goal.bounds-bytes-3

@@ -1,4 +1,4 @@
--- What the check does not find by itself of `planread::fixed_target`. Assumes nothing.
+-- `planread::fixed_target` meets its contract. Assumes nothing.
 use mathlib.Core.Path.{sym, ◌∙◌}
 use native.Mathlib.Omega.{arith}
 use Rattle.typeset.proofs.Bools.{passed, failed}
@@ -8,7 +8,6 @@ use lib.ListN.{drop, replicate}
 use Rattle.planread.proofs.Turns.{target_room, target-broken, target-on}
 use Rattle.planread.proofs.Steps.{read-refused}
 use Rattle.planread.proofs.Onward.{not_on}
-use borrow.Author.Rules.{rules}
 use Rattle.planread.proofs.fixed_target.Goals as goal
 
 pub order_at-target-requires : goal.order_at-target-requires

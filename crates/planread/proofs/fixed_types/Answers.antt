@@ -1,11 +1,10 @@
--- What the check does not find by itself of `planread::fixed_types`. Assumes nothing.
+-- `planread::fixed_types` meets its contract. Assumes nothing.
 use mathlib.Core.Path.{sym, ◌∙◌}
 use native.Mathlib.Omega.{arith}
 use Rattle.typeset.proofs.Bools.{passed, failed}
 use Rattle.planread.proofs.Turns.{types-room, types-broken, types-on}
 use Rattle.planread.proofs.Turns.{types-refused}
 use Rattle.planread.proofs.Onward.{not_on}
-use borrow.Author.Rules.{rules}
 use Rattle.planread.proofs.fixed_types.Goals as goal
 
 pub types_at-types-requires : goal.types_at-types-requires

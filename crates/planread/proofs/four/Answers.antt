@@ -1,4 +1,4 @@
--- What the check does not find by itself of `planread::four`. Assumes nothing.
+-- `planread::four` meets its contract. Assumes nothing.
 use native.Mathlib.Omega.{arith}
 use Rattle.planbytes.proofs.Numbers.{four-at}
 use borrow.Author.Rules.{rules}

@@ -1,8 +1,7 @@
--- What the check does not find by itself of `planread::header`. Assumes nothing.
+-- `planread::header` meets its contract. Assumes nothing.
 use mathlib.Core.Path.{sym, ◌∙◌}
 use Rattle.typeset.proofs.Bools.{passed, failed}
 use Rattle.planread.proofs.Fields.{header-cut, header-tag, header-many, header-long, header-body, header-whole}
-use borrow.Author.Rules.{rules}
 use Rattle.planread.proofs.header.Goals as goal
 
 pub returns-then-left-lt3 : goal.returns-then-left-lt3

@@ -1,4 +1,4 @@
--- What the check does not find by itself of `planread::keeps`. Assumes nothing.
+-- `planread::keeps` meets its contract. Assumes nothing.
 use mathlib.Core.Path.{◌≡◌, sym, ◌∙◌}
 use mathlib.Core.Bool.{Bool, true, false, ◌&&◌}
 use borrow.Author.Rules.{rules}

@@ -1,14 +1,9 @@
--- What the check does not find by itself of `planread::order_at`. Assumes nothing.
-use mathlib.Core.List.{append-nil}
-use mathlib.Core.Path.{◌≡◌, sym, ◌∙◌}
-use native.Mathlib.Omega.{arith}
-use borrow.Author.Rules.{rules}
-use Prim.Native.Nat.{◌≤◌, ◌-◌}
+-- `planread::order_at` meets its contract. The loop's invariant looks forward: what is still to be stored gives the whole result. Assumes nothing.
+use mathlib.Core.Path.{◌≡◌}
+use Prim.Native.Nat.{◌≤◌}
 use lib.ListN.{drop}
 use lib.Seq.{sets}
 use Rattle.planbytes.specs.Numbers.{numbers}
-use Rattle.planbytes.proofs.Numbers.{row_next, row_done, row-pad}
-use Rattle.planread.specs.Reading.{order_in}
 use Rattle.planread.proofs.order_at.Given as goal
 
 abbrev pub invariant-loop-t : goal.invariant-loop-t

@@ -1,4 +1,4 @@
--- What the check does not find by itself of `planread::pass_end`. Assumes nothing.
+-- `planread::pass_end` meets its contract. Assumes nothing.
 use mathlib.Core.Path.{◌≡◌, refl}
 use native.Mathlib.Omega.{arith}
 use lib.ListN.{length, drop, length-drop}
@@ -7,7 +7,6 @@ use mathlib.Core.Bool.{true, false}
 use borrow.Author.Tests.{eq-eqb, ne_eqb}
 use Rattle.planread.specs.Scanning.{shown_end}
 use Rattle.planread.proofs.Passing.{sighted-refused}
-use borrow.Author.Rules.{rules}
 use Rattle.planread.proofs.pass_end.Goals as goal
 
 pub returns-then-bytes-at : goal.returns-then-bytes-at

@@ -1,4 +1,4 @@
--- What the check does not find by itself of `planread::read`. Assumes nothing.
+-- `planread::read` meets its contract. Assumes nothing.
 use mathlib.Core.Path.{◌∙◌}
 use Rattle.planread.proofs.Said.{said}
 use Rattle.planread.proofs.Onward.{on-refused, on-sound}

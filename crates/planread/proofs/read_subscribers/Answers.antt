@@ -1,4 +1,4 @@
--- What the check does not find by itself of `planread::read_subscribers`. Assumes nothing.
+-- `planread::read_subscribers` meets its contract. Assumes nothing.
 use Prim.Native.Nat.{◌-◌, ◌+◌, ◌/◌}
 use lib.ListN.{length, drop}
 use Rattle.plan.specs.declared.Subscriber.{Subscriber}
@@ -7,9 +7,8 @@ use Rattle.planread.proofs.Steps.{boxes-length}
 use mathlib.Core.Path.{◌≡◌, sym, ap, ◌∙◌}
 use native.Mathlib.Omega.{arith}
 use Rattle.typeset.proofs.Bools.{passed, failed}
-use borrow.Author.Rules.{rules}
 use Prim.Native.Nat.{◌-◌}
-use Rattle.planread.proofs.Going.{Going, going-none, going_on}
+use Rattle.planread.proofs.Going.{going-none, going_on}
 use Rattle.planread.proofs.Turns.{turn-refused, turn_inside, turn_end, turn-count, turn_low, turn-high, turn-room, turn-blank, turn-broken, turn_on}
 use Rattle.planread.proofs.read_subscribers.Goals as goal
 

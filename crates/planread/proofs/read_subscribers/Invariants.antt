@@ -1,16 +1,7 @@
--- What the check does not find by itself of `planread::read_subscribers`. Assumes nothing.
-use Prim.Native.Nat.{◌-◌, ◌+◌, ◌/◌}
-use lib.ListN.{length, drop}
-use Rattle.plan.specs.declared.Subscriber.{Subscriber}
-use Rattle.planread.proofs.Places.{keeps-is}
-use Rattle.planread.proofs.Steps.{boxes-length}
-use mathlib.Core.Path.{◌≡◌, sym, ap, ◌∙◌}
-use native.Mathlib.Omega.{arith}
-use Rattle.typeset.proofs.Bools.{passed, failed}
-use borrow.Author.Rules.{rules}
+-- `planread::read_subscribers` meets its contract. The loop's invariant looks forward: reading on from where it is gives the whole result. Assumes nothing.
 use Prim.Native.Nat.{◌-◌}
-use Rattle.planread.proofs.Going.{Going, going-none, going_on}
-use Rattle.planread.proofs.Turns.{turn-refused, turn_inside, turn_end, turn-count, turn_low, turn-high, turn-room, turn-blank, turn-broken, turn_on}
+use Prim.Native.Nat.{◌-◌}
+use Rattle.planread.proofs.Going.{Going}
 use Rattle.planread.proofs.read_subscribers.Given as goal
 
 abbrev pub invariant-loop-r : goal.invariant-loop-r

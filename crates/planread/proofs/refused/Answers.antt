@@ -1,5 +1,4 @@
--- What the check does not find by itself of `planread::refused`. Assumes nothing.
-use borrow.Author.Rules.{rules}
+-- `planread::refused` meets its contract. Assumes nothing.
 use Rattle.planread.proofs.refused.Goals as goal
 
 pub returns : goal.returns

@@ -1,4 +1,4 @@
--- What the check does not find by itself of `planread::scan`. Assumes nothing.
+-- `planread::scan` meets its contract. Assumes nothing.
 use mathlib.Core.Path.{sym, ap, ◌∙◌}
 use Rattle.planread.specs.Scanning.{scanned}
 use Rattle.planread.proofs.Passing.{scanned-refused}

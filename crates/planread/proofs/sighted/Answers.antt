@@ -1,7 +1,6 @@
--- What the check does not find by itself of `planread::sighted`. Assumes nothing.
+-- `planread::sighted` meets its contract. Assumes nothing.
 use mathlib.Core.Path.{sym, ◌∙◌}
 use Rattle.planread.proofs.Passing.{sighted-refused}
-use borrow.Author.Rules.{rules}
 use Rattle.planread.proofs.sighted.Goals as goal
 
 pub returns-in-Refused : goal.returns-in-Refused

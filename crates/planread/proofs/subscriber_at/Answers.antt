@@ -1,4 +1,4 @@
--- What the check does not find by itself of `planread::subscriber_at`. Assumes nothing.
+-- `planread::subscriber_at` meets its contract. Assumes nothing.
 use Rattle.planread.proofs.Fields.{subscriber-at}
 use borrow.Author.Rules.{rules}
 use Rattle.planread.proofs.subscriber_at.Goals as goal

@@ -1,4 +1,4 @@
--- What the check does not find by itself of `planread::two`. Assumes nothing.
+-- `planread::two` meets its contract. Assumes nothing.
 use native.Mathlib.Omega.{arith}
 use Rattle.planbytes.proofs.Numbers.{two_at}
 use borrow.Author.Rules.{rules}

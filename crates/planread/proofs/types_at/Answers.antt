@@ -1,6 +1,5 @@
--- What the check does not find by itself of `planread::types_at`. Assumes nothing.
+-- `planread::types_at` meets its contract. Assumes nothing.
 use Rattle.planread.proofs.Fields.{types-at}
-use borrow.Author.Rules.{rules}
 use Rattle.planread.proofs.types_at.Goals as goal
 
 pub returns : goal.returns

@@ -1,6 +1,5 @@
--- What the check does not find by itself of `planread::unseen`. Assumes nothing.
+-- `planread::unseen` meets its contract. Assumes nothing.
 use mathlib.Core.Path.{refl}
-use borrow.Author.Rules.{rules}
 use Rattle.planread.specs.Scanning.{unseen}
 use Rattle.planread.proofs.unseen.Goals as goal
 

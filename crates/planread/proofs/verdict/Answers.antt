@@ -1,4 +1,4 @@
--- What the check does not find by itself of `planread::verdict`. Assumes nothing.
+-- `planread::verdict` meets its contract. Assumes nothing.
 use mathlib.Core.Path.{ap, ◌∙◌}
 use Rattle.planread.specs.declared.Reading.{Reading}
 use Rattle.planread.proofs.Said.{verdict-said}

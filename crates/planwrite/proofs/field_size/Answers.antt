@@ -1,4 +1,4 @@
--- What the check does not find by itself of `planwrite::field_size`. Assumes nothing.
+-- `planwrite::field_size` meets its contract. Assumes nothing.
 use native.Mathlib.Omega.{arith}
 use Rattle.planbytes.proofs.Lengths.{subscriber-size}
 use borrow.Author.Rules.{rules}

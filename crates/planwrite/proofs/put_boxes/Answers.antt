@@ -1,11 +1,10 @@
--- What the check does not find by itself of `planwrite::put_boxes`. Assumes nothing.
+-- `planwrite::put_boxes` meets its contract. Assumes nothing.
 use mathlib.Core.Path.{◌≡◌, refl, sym, ap, ◌∙◌}
 use native.Mathlib.Omega.{arith}
 use borrow.Author.Rules.{rules}
-use Prim.Native.Nat.{◌≤◌, ◌<◌, ◌-◌, ◌+◌, ◌*◌}
-use lib.ListN.{length, drop, take, length-take}
-use lib.Seq.{sets, length-sets, get_or-take}
-use Rattle.planbytes.specs.Numbers.{row}
+use Prim.Native.Nat.{◌≤◌, ◌<◌, ◌+◌, ◌*◌}
+use lib.ListN.{length, take, length-take}
+use lib.Seq.{length-sets, get_or-take}
 use Rattle.planwrite.proofs.Puts.{row-all, row_put, row-end}
 use Rattle.planwrite.proofs.put_boxes.Goals as goal
 

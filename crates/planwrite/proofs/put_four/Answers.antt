@@ -1,9 +1,8 @@
--- What the check does not find by itself of `planwrite::put_four`. Assumes nothing.
+-- `planwrite::put_four` meets its contract. Assumes nothing.
 use mathlib.Core.Path.{refl}
 use Prim.Native.Nat.{◌+◌, ◌/◌}
 use Rattle.planbytes.specs.Numbers.{high}
 use Rattle.planwrite.proofs.Puts.{puts_then}
-use borrow.Author.Rules.{rules}
 use Rattle.planwrite.proofs.put_four.Goals as goal
 
 pub returns : goal.returns

@@ -1,7 +1,6 @@
--- What the check does not find by itself of `planwrite::put_head`. Assumes nothing.
+-- `planwrite::put_head` meets its contract. Assumes nothing.
 use Rattle.planwrite.proofs.Puts.{head-put}
 use Rattle.planwrite.proofs.Puts.{head-put}
-use borrow.Author.Rules.{rules}
 use Rattle.planwrite.proofs.put_head.Goals as goal
 
 pub returns : goal.returns

@@ -1,10 +1,9 @@
--- What the check does not find by itself of `planwrite::put_header`. Assumes nothing.
+-- `planwrite::put_header` meets its contract. Assumes nothing.
 use mathlib.Core.Path.{refl}
 use Prim.Native.Nat.{◌+◌}
 use Rattle.planbytes.specs.Numbers.{high}
 use Rattle.planwrite.proofs.Puts.{puts_then}
 use Rattle.planbytes.proofs.Lengths.{high-length}
-use borrow.Author.Rules.{rules}
 use Rattle.planwrite.proofs.put_header.Goals as goal
 
 pub returns : goal.returns

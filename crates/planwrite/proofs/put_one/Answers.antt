@@ -1,4 +1,4 @@
--- What the check does not find by itself of `planwrite::put_one`. Assumes nothing.
+-- `planwrite::put_one` meets its contract. Assumes nothing.
 use Rattle.planwrite.proofs.Puts.{low_byte}
 use borrow.Author.Rules.{rules}
 use Rattle.planwrite.proofs.put_one.Goals as goal

@@ -1,4 +1,4 @@
--- What the check does not find by itself of `planwrite::put_order`. Assumes nothing.
+-- `planwrite::put_order` meets its contract. Assumes nothing.
 use mathlib.Core.Path.{◌≡◌}
 use lib.ListN.{length}
 use Rattle.planwrite.proofs.Puts.{order-put}

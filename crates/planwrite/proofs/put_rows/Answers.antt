@@ -1,11 +1,10 @@
--- What the check does not find by itself of `planwrite::put_rows`. Assumes nothing.
+-- `planwrite::put_rows` meets its contract. Assumes nothing.
 use mathlib.Core.Path.{◌≡◌, refl, sym, ap, ◌∙◌}
 use native.Mathlib.Omega.{arith}
 use borrow.Author.Rules.{rules}
-use Prim.Native.Nat.{◌≤◌, ◌<◌, ◌-◌, ◌+◌, ◌*◌}
-use lib.ListN.{length, drop}
-use lib.Seq.{sets, length-sets}
-use Rattle.planbytes.specs.Numbers.{row}
+use Prim.Native.Nat.{◌≤◌, ◌<◌, ◌+◌, ◌*◌}
+use lib.ListN.{length}
+use lib.Seq.{length-sets}
 use Rattle.planbytes.specs.Format.{order_body}
 use Rattle.planwrite.proofs.Puts.{row-all, row_put, row-end}
 use Rattle.planwrite.proofs.put_rows.Goals as goal

@@ -1,11 +1,10 @@
--- What the check does not find by itself of `planwrite::put_sets`. Assumes nothing.
+-- `planwrite::put_sets` meets its contract. Assumes nothing.
 use mathlib.Core.Path.{refl}
 use mathlib.Core.List.{◌++◌}
 use Prim.Native.Nat.{◌+◌}
 use Rattle.planbytes.specs.Numbers.{high, row}
 use Rattle.planbytes.specs.Format.{types_body}
 use Rattle.planwrite.proofs.Puts.{puts_then}
-use borrow.Author.Rules.{rules}
 use Rattle.planwrite.proofs.put_sets.Goals as goal
 
 pub returns : goal.returns

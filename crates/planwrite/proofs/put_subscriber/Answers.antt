@@ -1,4 +1,4 @@
--- What the check does not find by itself of `planwrite::put_subscriber`. Assumes nothing.
+-- `planwrite::put_subscriber` meets its contract. Assumes nothing.
 use native.Mathlib.Omega.{arith}
 use Rattle.planbytes.specs.Format.{field, subscriber_body}
 use Rattle.planbytes.proofs.Lengths.{subscriber-size}

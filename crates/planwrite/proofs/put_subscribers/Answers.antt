@@ -1,11 +1,9 @@
--- What the check does not find by itself of `planwrite::put_subscribers`. Assumes nothing.
+-- `planwrite::put_subscribers` meets its contract. Assumes nothing.
 use mathlib.Core.Path.{◌≡◌, refl, sym, ap, ◌∙◌}
-use mathlib.Core.Bool.{cond}
 use native.Mathlib.Omega.{arith}
 use borrow.Author.Rules.{rules}
-use Prim.Native.Nat.{◌≤◌, ◌<◌, ◌+◌, ◌*◌}
-use lib.ListN.{length, drop, take}
-use lib.Seq.{sets}
+use Prim.Native.Nat.{◌<◌, ◌+◌}
+use lib.ListN.{length, take}
 use Rattle.plan.specs.Parts.{at}
 use Rattle.planbytes.specs.Format.{field, subscriber_body, subscriber_fields}
 use Rattle.planwrite.proofs.Puts.{fields-length, fields-done, put-less, put-length, put-none, put_next}

@@ -1,14 +1,10 @@
--- What the check does not find by itself of `planwrite::put_subscribers`. Assumes nothing.
-use mathlib.Core.Path.{◌≡◌, refl, sym, ap, ◌∙◌}
+-- `planwrite::put_subscribers` meets its contract. The loop's invariant looks forward: what is still to come gives the whole result. Assumes nothing.
+use mathlib.Core.Path.{◌≡◌}
 use mathlib.Core.Bool.{cond}
-use native.Mathlib.Omega.{arith}
-use borrow.Author.Rules.{rules}
-use Prim.Native.Nat.{◌≤◌, ◌<◌, ◌+◌, ◌*◌}
+use Prim.Native.Nat.{◌≤◌, ◌+◌, ◌*◌}
 use lib.ListN.{length, drop, take}
 use lib.Seq.{sets}
-use Rattle.plan.specs.Parts.{at}
-use Rattle.planbytes.specs.Format.{field, subscriber_body, subscriber_fields}
-use Rattle.planwrite.proofs.Puts.{fields-length, fields-done, put-less, put-length, put-none, put_next}
+use Rattle.planbytes.specs.Format.{subscriber_fields}
 use Rattle.planwrite.proofs.put_subscribers.Given as goal
 
 abbrev pub invariant-loop-left : goal.invariant-loop-left

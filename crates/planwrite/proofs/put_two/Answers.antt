@@ -1,9 +1,8 @@
--- What the check does not find by itself of `planwrite::put_two`. Assumes nothing.
+-- `planwrite::put_two` meets its contract. Assumes nothing.
 use native.Mathlib.Omega.{arith}
 use lib.ListN.{length-set}
 use native.Mathlib.Numerals.{add-one}
 use Rattle.planbytes.specs.Numbers.{high}
-use borrow.Author.Rules.{rules}
 use Rattle.planwrite.proofs.put_two.Goals as goal
 
 pub bounds-room-at-2 : goal.bounds-room-at-2

@@ -1,10 +1,9 @@
--- What the check does not find by itself of `planwrite::put_types`. Assumes nothing.
+-- `planwrite::put_types` meets its contract. Assumes nothing.
 use mathlib.Core.Path.{refl}
 use mathlib.Core.List.{◌++◌}
 use Rattle.planbytes.specs.Numbers.{high, row}
 use Rattle.planbytes.specs.Format.{field, types_body}
 use Rattle.planwrite.proofs.Puts.{puts_then}
-use borrow.Author.Rules.{rules}
 use Rattle.planwrite.proofs.put_types.Goals as goal
 
 pub returns : goal.returns

@@ -1,10 +1,9 @@
--- What the check does not find by itself of `planwrite::put_version`. Assumes nothing.
+-- `planwrite::put_version` meets its contract. Assumes nothing.
 use mathlib.Core.Path.{refl}
 use mathlib.Core.List.{◌++◌}
 use Rattle.planbytes.specs.Numbers.{high}
 use Rattle.planbytes.specs.Format.{field, version_body}
 use Rattle.planwrite.proofs.Puts.{puts_then}
-use borrow.Author.Rules.{rules}
 use Rattle.planwrite.proofs.put_version.Goals as goal
 
 pub returns : goal.returns

@@ -1,6 +1,5 @@
--- What the check does not find by itself of `planwrite::write`. Assumes nothing.
+-- `planwrite::write` meets its contract: it hands on the verdict that it has found. Assumes nothing.
 use Rattle.planwrite.proofs.Files.{said}
-use borrow.Author.Rules.{rules}
 use Rattle.planwrite.proofs.write.Goals as goal
 
 pub returns : goal.returns

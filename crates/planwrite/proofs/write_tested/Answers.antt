@@ -1,5 +1,5 @@
--- What the check does not find by itself of `planwrite::write_tested`. Assumes nothing.
-use mathlib.Core.Path.{◌≡◌, refl, ap, ◌∙◌}
+-- `planwrite::write_tested` meets its contract. Assumes nothing.
+use mathlib.Core.Path.{◌≡◌, refl, ap}
 use mathlib.Core.Bool.{true, false}
 use native.Mathlib.Omega.{arith}
 use Rattle.typeset.proofs.Bools.{passed, failed}

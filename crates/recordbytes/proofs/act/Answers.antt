@@ -1,4 +1,4 @@
--- What the check does not find by itself of `recordbytes::act`. Assumes nothing.
+-- `recordbytes::act` meets its contract. Assumes nothing.
 use mathlib.Core.Path.{refl, ap, ◌∙◌}
 use Rattle.recordbytes.specs.Parts.{acted_at}
 use Rattle.recordbytes.proofs.Acts.{said-as, is-command, sends-else, busy-by, unobtainable-by}

@@ -1,4 +1,4 @@
--- What the check does not find by itself of `recordbytes::command_at`. Assumes nothing.
+-- `recordbytes::command_at` meets its contract. Assumes nothing.
 use native.Mathlib.Omega.{arith}
 use mathlib.Core.Path.{sym}
 use Rattle.recordbytes.specs.Numbers.{command_of}

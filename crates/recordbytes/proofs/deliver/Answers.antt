@@ -1,4 +1,4 @@
--- What the check does not find by itself of `recordbytes::deliver`. Assumes nothing.
+-- `recordbytes::deliver` meets its contract. Assumes nothing.
 use Prim.Native.Nat.{ℕ, ◌+◌, ◌<◌}
 use lib.ListN.{get_or}
 use Rattle.recordbytes.specs.Numbers.{side_of}

@@ -1,4 +1,4 @@
--- What the check does not find by itself of `recordbytes::deliver_downack`. Assumes nothing.
+-- `recordbytes::deliver_downack` meets its contract. Assumes nothing.
 use native.Mathlib.Omega.{arith}
 use Prim.Native.Nat.{◌+◌}
 use lib.ListN.{length-set}

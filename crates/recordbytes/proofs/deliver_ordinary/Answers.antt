@@ -1,4 +1,4 @@
--- What the check does not find by itself of `recordbytes::deliver_ordinary`. Assumes nothing.
+-- `recordbytes::deliver_ordinary` meets its contract. Assumes nothing.
 use native.Mathlib.Omega.{arith}
 use Prim.Native.Nat.{ℕ, ◌+◌}
 use lib.ListN.{length-set}

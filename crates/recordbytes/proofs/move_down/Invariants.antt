@@ -1,4 +1,4 @@
--- What the check does not find by itself of `recordbytes::move_down`. Assumes nothing.
+-- What the loops of `recordbytes::move_down` keep. Assumes nothing.
 use mathlib.Core.Path.{◌≡◌}
 use Prim.Native.Nat.{◌+◌, ◌-◌, ◌≤◌}
 use lib.ListN.{length, take, drop}

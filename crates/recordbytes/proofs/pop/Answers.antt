@@ -1,4 +1,4 @@
--- What the check does not find by itself of `recordbytes::pop`. Assumes nothing.
+-- `recordbytes::pop` meets its contract. Assumes nothing.
 use mathlib.Core.Path.{refl}
 use native.Mathlib.Omega.{arith}
 use lib.ListN.{length-set}

@@ -1,4 +1,4 @@
--- What the check does not find by itself of `recordbytes::push`. Assumes nothing.
+-- `recordbytes::push` meets its contract. Assumes nothing.
 use mathlib.Core.Path.{ap}
 use mathlib.Core.List.{List}
 use Prim.Native.Nat.{ℕ, ◌+◌, ◌*◌}

@@ -1,4 +1,4 @@
--- What the check does not find by itself of `recordbytes::send`. Assumes nothing.
+-- `recordbytes::send` meets its contract. Assumes nothing.
 use native.Mathlib.Omega.{arith}
 use Rattle.recordbytes.specs.Numbers.{side_of}
 use Rattle.call.specs.Protocol.{other}

@@ -1,4 +1,4 @@
--- What the check does not find by itself of `recordbytes::step_in`. Assumes nothing.
+-- `recordbytes::step_in` meets its contract. Assumes nothing.
 use mathlib.Core.Path.{refl}
 use Rattle.refusal.specs.declared.Refusal.TheVariants.{BrokenRecord}
 use Rattle.ends.specs.declared.Side.TheVariants.{Caller, Callee}

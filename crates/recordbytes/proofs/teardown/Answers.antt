@@ -1,4 +1,4 @@
--- What the check does not find by itself of `recordbytes::teardown`. Assumes nothing.
+-- `recordbytes::teardown` meets its contract. Assumes nothing.
 use native.Mathlib.Omega.{arith}
 use Prim.Native.Nat.{◌+◌}
 use lib.ListN.{length-set}

@@ -1,7 +1,6 @@
--- What the check does not find by itself of `routing::before`. Assumes nothing.
+-- `routing::before` meets its contract. Assumes nothing.
 use borrow.Author.Tests.{lt-ltb, le-ltb}
 use Rattle.routing.specs.Steps.{stands, before}
-use borrow.Author.Rules.{rules}
 use Rattle.routing.proofs.before.Goals as goal
 
 pub returns-then-place-list_length : goal.returns-then-place-list_length

@@ -1,11 +1,10 @@
--- What the check does not find by itself of `routing::begins`. Assumes nothing.
-use mathlib.Core.Path.{◌≡◌, refl, sym, ap, ◌∙◌}
+-- `routing::begins` meets its contract. Assumes nothing.
+use mathlib.Core.Path.{◌≡◌, sym, ap, ◌∙◌}
 use Prim.Native.Nat.{◌-◌}
 use lib.ListN.{length}
 use Rattle.setup.specs.declared.Route.{Route}
 use Rattle.setup.specs.Setups.{list_of}
 use Rattle.routing.specs.Places.{begins}
-use borrow.Author.Rules.{rules}
 use Rattle.routing.proofs.begins.Goals as goal
 
 pub returns-in-Suffix : goal.returns-in-Suffix

@@ -1,11 +1,10 @@
--- What the check does not find by itself of `routing::box_chosen`. Assumes nothing.
+-- `routing::box_chosen` meets its contract. Assumes nothing.
 use mathlib.Core.Path.{sym, ◌∙◌}
 use Rattle.setup.specs.Setups.{routing}
 use Rattle.routing.specs.Interface.{interface_at}
 use Rattle.routing.specs.Steps.{callee4}
 use Rattle.routing.proofs.Boxes.{interface-shown}
 use Rattle.routing.proofs.Chosen.{chosen_none, chosen-some}
-use borrow.Author.Rules.{rules}
 use Rattle.routing.proofs.box_chosen.Goals as goal
 
 pub returns-then-rest-eq0 : goal.returns-then-rest-eq0

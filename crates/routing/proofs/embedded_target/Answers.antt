@@ -1,10 +1,9 @@
--- What the check does not find by itself of `routing::embedded_target`. Assumes nothing.
+-- `routing::embedded_target` meets its contract. Assumes nothing.
 use mathlib.Core.Path.{◌≡◌, sym, ap, ◌∙◌}
 use native.Mathlib.Omega.{arith}
-use lib.ListN.{length, take, length-take}
+use lib.ListN.{length, length-take}
 use Rattle.setup.specs.Dialling.{string_of}
 use Rattle.setup.proofs.Stored.{cut}
-use Rattle.embedded.specs.Embedded.{embedded}
 use Rattle.routing.specs.Steps.{dials}
 use borrow.Author.Rules.{rules}
 use Rattle.routing.proofs.embedded_target.Goals as goal

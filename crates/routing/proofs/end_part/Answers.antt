@@ -1,6 +1,5 @@
--- What the check does not find by itself of `routing::end_part`. Assumes nothing.
+-- `routing::end_part` meets its contract. Assumes nothing.
 use Rattle.routing.proofs.Parts.{part_cut}
-use borrow.Author.Rules.{rules}
 use Rattle.routing.proofs.end_part.Goals as goal
 
 pub returns : goal.returns

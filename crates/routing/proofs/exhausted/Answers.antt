@@ -1,11 +1,10 @@
--- What the check does not find by itself of `routing::exhausted`. Assumes nothing.
-use mathlib.Core.Path.{◌≡◌, refl, sym, ap, ◌∙◌}
+-- `routing::exhausted` meets its contract. Assumes nothing.
+use mathlib.Core.Path.{sym, ap, ◌∙◌}
 use lib.ListN.{drop}
 use Rattle.plan.specs.declared.Region.{Region}
 use Rattle.setup.specs.Setups.{list_of}
 use Rattle.routing.specs.Steps.{exhausted}
 use Rattle.routing.proofs.Parts.{empty-drop}
-use borrow.Author.Rules.{rules}
 use Rattle.routing.proofs.exhausted.Goals as goal
 
 pub returns-in-Source : goal.returns-in-Source

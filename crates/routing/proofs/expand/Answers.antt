@@ -1,10 +1,8 @@
--- What the check does not find by itself of `routing::expand`. Assumes nothing.
-use mathlib.Core.Path.{◌≡◌, refl, sym, ap, ◌∙◌}
-use mathlib.Core.List.{List}
+-- `routing::expand` meets its contract. Assumes nothing.
+use mathlib.Core.Path.{sym, ap, ◌∙◌}
 use lib.ListN.{take, drop}
 use Rattle.plan.specs.declared.Region.{Region}
 use Rattle.routing.specs.Places.{list_in}
-use borrow.Author.Rules.{rules}
 use Rattle.routing.proofs.expand.Goals as goal
 
 pub returns-in-Source : goal.returns-in-Source

@@ -1,7 +1,6 @@
--- What the check does not find by itself of `routing::extracted`. Assumes nothing.
+-- `routing::extracted` meets its contract. Assumes nothing.
 use borrow.Author.Tests.{eq-eqb, ne_eqb}
 use Rattle.routing.specs.Steps.{target1}
-use borrow.Author.Rules.{rules}
 use Rattle.routing.proofs.extracted.Goals as goal
 
 pub returns-then-out-eq0 : goal.returns-then-out-eq0

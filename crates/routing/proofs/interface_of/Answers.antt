@@ -1,7 +1,6 @@
--- What the check does not find by itself of `routing::interface_of`. Assumes nothing.
+-- `routing::interface_of` meets its contract. Assumes nothing.
 use mathlib.Core.Path.{sym, ◌∙◌}
 use Rattle.routing.proofs.Boxes.{none-listed, one-listed}
-use borrow.Author.Rules.{rules}
 use Rattle.routing.proofs.interface_of.Goals as goal
 
 pub returns-in_default : goal.returns-in_default

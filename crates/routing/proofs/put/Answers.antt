@@ -1,8 +1,8 @@
--- What the check does not find by itself of `routing::put`. Assumes nothing.
+-- `routing::put` meets its contract. Assumes nothing.
 use mathlib.Core.Path.{◌≡◌, refl, sym, ap, ◌∙◌}
-use Prim.Native.Nat.{◌+◌, ◌-◌, ◌≤◌, ◌<◌}
+use Prim.Native.Nat.{◌≤◌}
 use native.Mathlib.Omega.{arith}
-use lib.ListN.{length, take, drop, length-set}
+use lib.ListN.{length, take, length-set}
 use lib.Seq.{sets}
 use Rattle.setup.specs.Setups.{list_of}
 use Rattle.routing.proofs.Parts.{list-short, list-cut, store-next, store-done}

@@ -1,12 +1,8 @@
--- What the check does not find by itself of `routing::put`. Assumes nothing.
-use mathlib.Core.Path.{◌≡◌, refl, sym, ap, ◌∙◌}
-use Prim.Native.Nat.{◌+◌, ◌-◌, ◌≤◌, ◌<◌}
-use native.Mathlib.Omega.{arith}
-use lib.ListN.{length, take, drop, length-set}
+-- `routing::put` meets its contract. The loop looks forward: what is still to come, stored from here on, gives the whole. Assumes nothing.
+use mathlib.Core.Path.{◌≡◌}
+use Prim.Native.Nat.{◌-◌, ◌≤◌}
+use lib.ListN.{length, take, drop}
 use lib.Seq.{sets}
-use Rattle.setup.specs.Setups.{list_of}
-use Rattle.routing.proofs.Parts.{list-short, list-cut, store-next, store-done}
-use borrow.Author.Rules.{rules}
 use Rattle.routing.proofs.put.Given as goal
 
 abbrev pub invariant-loop-i : goal.invariant-loop-i

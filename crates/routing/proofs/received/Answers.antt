@@ -1,12 +1,10 @@
--- What the check does not find by itself of `routing::received`. Assumes nothing.
-use mathlib.Core.Path.{◌≡◌, refl, sym, ap, ◌∙◌}
+-- `routing::received` meets its contract. Assumes nothing.
 use Prim.Native.Nat.{◌≤◌}
 use lib.ListN.{length}
 use native.Mathlib.Omega.{arith}
 use Rattle.setup.proofs.Stored.{all-32}
 use Rattle.routing.specs.Steps.{tail, received4}
 use Rattle.routing.proofs.Parts.{tail-length}
-use borrow.Author.Rules.{rules}
 use Rattle.routing.proofs.received.Goals as goal
 
 pub returns : goal.returns

@@ -1,6 +1,5 @@
--- What the check does not find by itself of `routing::refused`. Assumes nothing.
+-- `routing::refused` meets its contract. Assumes nothing.
 use Rattle.routing.specs.Routing.{refused_with}
-use borrow.Author.Rules.{rules}
 use Rattle.routing.proofs.refused.Goals as goal
 
 pub returns : goal.returns

@@ -1,4 +1,4 @@
--- What the check does not find by itself of `routing::roomy`. Assumes nothing.
+-- `routing::roomy` meets its contract. Assumes nothing.
 use Rattle.routing.specs.Routing.{roomy}
 use borrow.Author.Tests.{le-leb, lt-leb}
 use Rattle.routing.proofs.roomy.Goals as goal

@@ -1,4 +1,4 @@
--- What the check does not find by itself of `routing::route_seen`. Assumes nothing.
+-- `routing::route_seen` meets its contract. What the parts ask is shown with no plan at hand; what is promised is shown for any plan that shows `v`. Assumes nothing.
 use mathlib.Core.Path.{◌≡◌, refl, sym, ap, ◌∙◌}
 use Prim.Native.Nat.{◌≤◌}
 use Rattle.typeset.proofs.Bools.{clash}
@@ -14,7 +14,6 @@ use Rattle.routing.specs.Places.{zone_in}
 use Rattle.routing.proofs.Parts.{stored-held}
 use Rattle.routing.proofs.Zoned.{settled-room, room-source, room-target, handed-over, source-refused, target-refused, answer-refused, source-routed, target-routed}
 use Rattle.routing.proofs.Shown.{zone-held-short, source-shown, target-shown, settled-shown}
-use borrow.Author.Rules.{rules}
 use Rattle.routing.proofs.route_seen.Goals as goal
 
 pub put-requires : goal.put-requires
@@ -57,7 +56,7 @@ hand_over-requires c =
 
 pub returns-in-Refuse : goal.returns-in-Refuse
 returns-in-Refuse c = record {
-      value = λ p shows.
+  value = λ p shows.
       let a = c.args in
       let zs = c.zone_of-source_zone.result in
       let zt = c.zone_of-target_zone.result in
@@ -71,12 +70,12 @@ returns-in-Refuse c = record {
         sym (source-refused a.kept p a.out a.later n m _ a.source_list.now refuse),
         sym (target-refused a.kept p a.out a.later n m _ a.target_list.now refuse),
       );
-      unchanged = (λ refused. refl, λ refused. refl);
-    }
+  unchanged = (λ refused. refl, λ refused. refl);
+}
 
 pub returns-in-Nothing : goal.returns-in-Nothing
 returns-in-Nothing c = record {
-      value = λ p shows.
+  value = λ p shows.
       let a = c.args in
       let zs = c.zone_of-source_zone.result in
       let zt = c.zone_of-target_zone.result in
@@ -98,5 +97,5 @@ returns-in-Nothing c = record {
         c.put.ensures ∙ source-routed a.kept p a.out a.later n m zs a.source_list.now nothing source source_fits,
         c.put-in-Nothing.ensures ∙ target-routed a.kept p a.out a.later n m zt a.target_list.now nothing target target_fits,
       );
-      unchanged = (λ refused. absurd (clash c.hand_over.ensures.routed refused), λ refused. absurd (clash c.hand_over.ensures.routed refused));
-    }
+  unchanged = (λ refused. absurd (clash c.hand_over.ensures.routed refused), λ refused. absurd (clash c.hand_over.ensures.routed refused));
+}

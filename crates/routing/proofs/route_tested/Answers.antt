@@ -1,6 +1,5 @@
--- What the check does not find by itself of `routing::route_tested`. Assumes nothing.
+-- `routing::route_tested` meets its contract: the plan shows what it hands on. Assumes nothing.
 use mathlib.Core.Path.{sym}
-use borrow.Author.Rules.{rules}
 use Rattle.routing.proofs.route_tested.Goals as goal
 
 pub returns : goal.returns

@@ -1,5 +1,4 @@
--- What the check does not find by itself of `routing::route_unless`. Assumes nothing.
-use borrow.Author.Rules.{rules}
+-- `routing::route_unless` meets its contract: it hands on the verdict that it has found. Assumes nothing.
 use Rattle.routing.proofs.route_unless.Goals as goal
 
 pub returns : goal.returns

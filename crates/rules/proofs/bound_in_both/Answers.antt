@@ -1,4 +1,4 @@
--- What the check does not find by itself of `rules::bound_in_both`. Assumes nothing.
+-- `rules::bound_in_both` meets its contract. Assumes nothing.
 use Rattle.plan.specs.Rules.{bound_in_both}
 use Rattle.rules.proofs.bound_in_both.Goals as goal
 

@@ -1,4 +1,4 @@
--- What the check does not find by itself of `rules::box_number`. Assumes nothing.
+-- `rules::box_number` meets its contract. Assumes nothing.
 use Rattle.plan.proofs.Boxes.{number-code}
 use Rattle.rules.proofs.box_number.Goals as goal
 

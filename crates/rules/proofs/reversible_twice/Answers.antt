@@ -1,4 +1,4 @@
--- What the check does not find by itself of `rules::reversible_twice`. Assumes nothing.
+-- `rules::reversible_twice` meets its contract. Assumes nothing.
 use Rattle.typeset.proofs.Laws.{same_code}
 use Rattle.plan.specs.Rules.{reversible_twice}
 use Rattle.rules.proofs.reversible_twice.Goals as goal

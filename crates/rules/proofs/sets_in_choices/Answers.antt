@@ -1,4 +1,4 @@
--- What the check does not find by itself of `rules::sets_in_choices`. Assumes nothing.
+-- `rules::sets_in_choices` meets its contract. Assumes nothing.
 use Rattle.typeset.proofs.Bools.{passed, failed}
 use Rattle.plan.specs.Rules.{sets_in_choices}
 use Rattle.rules.proofs.sets_in_choices.Goals as goal

@@ -1,4 +1,4 @@
--- What the check does not find by itself of `rules::source_sound`. Assumes nothing.
+-- `rules::source_sound` meets its contract. Assumes nothing.
 use Rattle.typeset.proofs.Bools.{passed, failed}
 use Rattle.plan.specs.Sound.{source_sound}
 use Rattle.rules.proofs.source_sound.Goals as goal

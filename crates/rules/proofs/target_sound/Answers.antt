@@ -1,4 +1,4 @@
--- What the check does not find by itself of `rules::target_sound`. Assumes nothing.
+-- `rules::target_sound` meets its contract. Assumes nothing.
 use Rattle.typeset.proofs.Bools.{passed, failed}
 use Rattle.plan.specs.Sound.{target_sound}
 use Rattle.rules.proofs.target_sound.Goals as goal

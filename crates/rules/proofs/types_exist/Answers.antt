@@ -1,4 +1,4 @@
--- What the check does not find by itself of `rules::types_exist`. Assumes nothing.
+-- `rules::types_exist` meets its contract. Assumes nothing.
 use Rattle.typeset.proofs.Bools.{passed, failed}
 use Rattle.plan.specs.Rules.{types_exist}
 use Rattle.rules.proofs.types_exist.Goals as goal

@@ -1,4 +1,4 @@
--- What the check does not find by itself of `rules::types_sound`. Assumes nothing.
+-- `rules::types_sound` meets its contract. Assumes nothing.
 use Rattle.typeset.proofs.Bools.{passed, failed}
 use Rattle.plan.specs.Sound.{types_sound}
 use Rattle.rules.proofs.types_sound.Goals as goal

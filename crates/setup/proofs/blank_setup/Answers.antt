@@ -1,6 +1,5 @@
--- What the check does not find by itself of `setup::blank_setup`. Assumes nothing.
+-- `setup::blank_setup` meets its contract. Assumes nothing.
 use Rattle.setup.specs.Setups.{blank}
-use borrow.Author.Rules.{rules}
 use Rattle.setup.proofs.blank_setup.Goals as goal
 
 pub returns : goal.returns

@@ -1,8 +1,7 @@
--- What the check does not find by itself of `setup::dial`. Assumes nothing.
+-- `setup::dial` meets its contract. Assumes nothing.
 use mathlib.Core.Path.{sym, ◌∙◌}
 use Rattle.setup.specs.Dialling.{dialled}
 use Rattle.setup.proofs.Stored.{first-32}
-use borrow.Author.Rules.{rules}
 use Rattle.setup.proofs.dial.Goals as goal
 
 pub returns : goal.returns

@@ -1,4 +1,4 @@
--- What the check does not find by itself of `setup::empty_list`. Assumes nothing.
+-- `setup::empty_list` meets its contract. Assumes nothing.
 use mathlib.Core.Path.{refl}
 use Rattle.zone.specs.Order.{held}
 use Rattle.setup.proofs.empty_list.Goals as goal

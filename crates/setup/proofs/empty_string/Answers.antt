@@ -1,4 +1,4 @@
--- What the check does not find by itself of `setup::empty_string`. Assumes nothing.
+-- `setup::empty_string` meets its contract. Assumes nothing.
 use mathlib.Core.Path.{refl}
 use Rattle.setup.specs.Dialling.{dialled, padded}
 use Rattle.setup.proofs.empty_string.Goals as goal

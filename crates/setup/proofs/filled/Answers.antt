@@ -1,9 +1,8 @@
--- What the check does not find by itself of `setup::filled`. Assumes nothing.
-use mathlib.Core.Path.{◌≡◌, refl, sym, ap, ◌∙◌}
-use lib.ListN.{length, take, replicate}
-use Rattle.setup.specs.Dialling.{padded}
-use Rattle.setup.proofs.Stored.{onward, onward-next, onward-done, onward-padded}
-use Prim.Native.Nat.{◌≤◌, ◌-◌, min}
+-- `setup::filled` meets its contract. Assumes nothing.
+use mathlib.Core.Path.{◌≡◌, sym, ◌∙◌}
+use lib.ListN.{length}
+use Rattle.setup.proofs.Stored.{onward-next, onward-done, onward-padded}
+use Prim.Native.Nat.{min}
 use native.Mathlib.Omega.{arith}
 use borrow.Author.Rules.{rules}
 use Rattle.setup.proofs.filled.Goals as goal

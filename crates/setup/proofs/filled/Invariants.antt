@@ -1,11 +1,9 @@
--- What the check does not find by itself of `setup::filled`. Assumes nothing.
-use mathlib.Core.Path.{◌≡◌, refl, sym, ap, ◌∙◌}
-use lib.ListN.{length, take, replicate}
+-- `setup::filled` meets its contract. The loop's invariant looks forward: what is left of the bytes, stored from place i on, gives the whole result. Assumes nothing.
+use mathlib.Core.Path.{◌≡◌}
+use lib.ListN.{take}
 use Rattle.setup.specs.Dialling.{padded}
-use Rattle.setup.proofs.Stored.{onward, onward-next, onward-done, onward-padded}
-use Prim.Native.Nat.{◌≤◌, ◌-◌, min}
-use native.Mathlib.Omega.{arith}
-use borrow.Author.Rules.{rules}
+use Rattle.setup.proofs.Stored.{onward}
+use Prim.Native.Nat.{◌≤◌}
 use Rattle.setup.proofs.filled.Given as goal
 
 abbrev pub invariant-loop-i : goal.invariant-loop-i

@@ -1,7 +1,7 @@
--- What the check does not find by itself of `setup::kept_list`. Assumes nothing.
-use mathlib.Core.Path.{◌≡◌, sym, ap, ◌∙◌}
+-- `setup::kept_list` meets its contract. Assumes nothing.
+use mathlib.Core.Path.{◌≡◌, ap, ◌∙◌}
 use native.Mathlib.Omega.{arith}
-use lib.ListN.{length, take, length-take}
+use lib.ListN.{length, length-take}
 use Rattle.zone.specs.Order.{held}
 use Rattle.setup.specs.Setups.{list_of}
 use Rattle.setup.proofs.Stored.{cut-32}

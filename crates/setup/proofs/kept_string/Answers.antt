@@ -1,7 +1,7 @@
--- What the check does not find by itself of `setup::kept_string`. Assumes nothing.
-use mathlib.Core.Path.{◌≡◌, sym, ap, ◌∙◌}
+-- `setup::kept_string` meets its contract. Assumes nothing.
+use mathlib.Core.Path.{◌≡◌, ap, ◌∙◌}
 use native.Mathlib.Omega.{arith}
-use lib.ListN.{length, take, length-take}
+use lib.ListN.{length, length-take}
 use Rattle.setup.specs.Dialling.{dialled, string_of}
 use Rattle.setup.proofs.Stored.{cut-32}
 use borrow.Author.Rules.{rules}

@@ -1,13 +1,9 @@
--- What the check does not find by itself of `setup::legal_dialled`. Assumes nothing.
-use mathlib.Core.Path.{◌≡◌, sym, ◌∙◌}
-use mathlib.Core.Bool.{true}
+-- `setup::legal_dialled` meets its contract. Assumes nothing.
+use mathlib.Core.Path.{◌≡◌, sym}
 use Rattle.typeset.proofs.Bools.{passed, failed}
-use Rattle.typeset.specs.Sets.{every}
 use Rattle.typeset.proofs.Below.{every-none, every_more, every-no}
-use lib.ListN.{length, get_or}
-use Rattle.setup.specs.Dialling.{symbol, legal_string, legal_dialled}
+use Rattle.setup.specs.Dialling.{legal_dialled}
 use borrow.Author.Tests.{le-leb, lt-leb}
-use Prim.Native.Nat.{◌≤◌, ◌-◌}
 use native.Mathlib.Omega.{arith}
 use borrow.Author.Rules.{rules}
 use Rattle.setup.proofs.legal_dialled.Goals as goal

@@ -1,15 +1,10 @@
--- What the check does not find by itself of `setup::legal_dialled`. Assumes nothing.
-use mathlib.Core.Path.{◌≡◌, sym, ◌∙◌}
+-- `setup::legal_dialled` meets its contract. The loop's invariant: each place passed has a symbol. Assumes nothing.
+use mathlib.Core.Path.{◌≡◌}
 use mathlib.Core.Bool.{true}
-use Rattle.typeset.proofs.Bools.{passed, failed}
 use Rattle.typeset.specs.Sets.{every}
-use Rattle.typeset.proofs.Below.{every-none, every_more, every-no}
-use lib.ListN.{length, get_or}
-use Rattle.setup.specs.Dialling.{symbol, legal_string, legal_dialled}
-use borrow.Author.Tests.{le-leb, lt-leb}
+use lib.ListN.{get_or}
+use Rattle.setup.specs.Dialling.{symbol}
 use Prim.Native.Nat.{◌≤◌, ◌-◌}
-use native.Mathlib.Omega.{arith}
-use borrow.Author.Rules.{rules}
 use Rattle.setup.proofs.legal_dialled.Given as goal
 
 abbrev pub invariant-loop-i : goal.invariant-loop-i

@@ -1,13 +1,10 @@
--- What the check does not find by itself of `setup::legal_string`. Assumes nothing.
-use mathlib.Core.Path.{◌≡◌, sym, ◌∙◌}
-use mathlib.Core.Bool.{true}
+-- `setup::legal_string` meets its contract. Assumes nothing.
+use mathlib.Core.Path.{◌≡◌, sym}
 use Rattle.typeset.proofs.Bools.{passed, failed}
-use Rattle.typeset.specs.Sets.{every}
 use Rattle.typeset.proofs.Below.{every-none, every_more, every-no}
-use lib.ListN.{length, get_or}
-use Rattle.setup.specs.Dialling.{symbol, legal_string, legal_dialled}
+use lib.ListN.{length}
+use Rattle.setup.specs.Dialling.{legal_string}
 use borrow.Author.Tests.{le-leb, lt-leb}
-use Prim.Native.Nat.{◌≤◌, ◌-◌}
 use native.Mathlib.Omega.{arith}
 use borrow.Author.Rules.{rules}
 use Rattle.setup.proofs.legal_string.Goals as goal

@@ -1,4 +1,4 @@
--- What the check does not find by itself of `setup::list_length`. Assumes nothing.
+-- `setup::list_length` meets its contract. Assumes nothing.
 use mathlib.Core.Path.{◌≡◌, sym, ◌∙◌}
 use lib.ListN.{length}
 use Rattle.setup.specs.Setups.{list_of}

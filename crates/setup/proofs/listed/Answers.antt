@@ -1,9 +1,8 @@
--- What the check does not find by itself of `setup::listed`. Assumes nothing.
+-- `setup::listed` meets its contract. Assumes nothing.
 use mathlib.Core.Path.{sym, ◌∙◌}
 use Rattle.zone.specs.Order.{held}
 use Rattle.setup.specs.Dialling.{padded}
 use Rattle.setup.proofs.Stored.{first-32}
-use borrow.Author.Rules.{rules}
 use Rattle.setup.proofs.listed.Goals as goal
 
 pub returns : goal.returns

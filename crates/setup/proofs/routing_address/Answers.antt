@@ -1,6 +1,5 @@
--- What the check does not find by itself of `setup::routing_address`. Assumes nothing.
+-- `setup::routing_address` meets its contract. Assumes nothing.
 use Rattle.setup.specs.Setups.{routing_address}
-use borrow.Author.Rules.{rules}
 use Rattle.setup.proofs.routing_address.Goals as goal
 
 pub returns : goal.returns

@@ -1,4 +1,4 @@
--- What the check does not find by itself of `setup::symbol`. Assumes nothing.
+-- `setup::symbol` meets its contract. Assumes nothing.
 use borrow.Author.Tests.{eq-eqb, ne_eqb, le-leb, lt-leb}
 use Rattle.setup.specs.Dialling.{symbol}
 use Rattle.setup.proofs.symbol.Goals as goal

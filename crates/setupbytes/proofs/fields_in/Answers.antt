@@ -1,6 +1,5 @@
--- What the check does not find by itself of `setupbytes::fields_in`. Assumes nothing.
+-- `setupbytes::fields_in` meets its contract. Assumes nothing.
 use Rattle.setupbytes.specs.Codec.{fields_in}
-use borrow.Author.Rules.{rules}
 use Rattle.setupbytes.proofs.fields_in.Goals as goal
 
 pub returns : goal.returns

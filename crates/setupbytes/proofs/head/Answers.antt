@@ -1,6 +1,5 @@
--- What the check does not find by itself of `setupbytes::head`. Assumes nothing.
+-- `setupbytes::head` meets its contract. Assumes nothing.
 use Rattle.setupbytes.specs.Codec.{head}
-use borrow.Author.Rules.{rules}
 use Rattle.setupbytes.proofs.head.Goals as goal
 
 pub returns : goal.returns

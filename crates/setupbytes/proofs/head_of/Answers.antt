@@ -1,8 +1,7 @@
--- What the check does not find by itself of `setupbytes::head_of`. Assumes nothing.
+-- `setupbytes::head_of` meets its contract. Assumes nothing.
 use Rattle.planbytes.specs.Numbers.{high}
 use Rattle.planbytes.specs.Format.{field}
 use Rattle.setupbytes.specs.Codec.{head_of}
-use borrow.Author.Rules.{rules}
 use Rattle.setupbytes.proofs.head_of.Goals as goal
 
 pub returns : goal.returns

@@ -1,9 +1,6 @@
--- What the check does not find by itself of `setupbytes::places`. Assumes nothing.
+-- `setupbytes::places` meets its contract. Assumes nothing.
 use mathlib.Core.Path.{◌≡◌, sym, ◌∙◌}
 use native.Mathlib.Omega.{arith}
-use Prim.Native.Nat.{◌-◌, ◌≤◌}
-use lib.ListN.{drop, take}
-use lib.Seq.{sets}
 use Rattle.setupbytes.proofs.Stores.{taken-all, taken_next, taken-done}
 use borrow.Author.Rules.{rules}
 use Rattle.setupbytes.proofs.places.Goals as goal

@@ -1,11 +1,8 @@
--- What the check does not find by itself of `setupbytes::places`. Assumes nothing.
-use mathlib.Core.Path.{◌≡◌, sym, ◌∙◌}
-use native.Mathlib.Omega.{arith}
-use Prim.Native.Nat.{◌-◌, ◌≤◌}
+-- What the loops of `setupbytes::places` keep. Assumes nothing.
+use mathlib.Core.Path.{◌≡◌}
+use Prim.Native.Nat.{◌≤◌}
 use lib.ListN.{drop, take}
 use lib.Seq.{sets}
-use Rattle.setupbytes.proofs.Stores.{taken-all, taken_next, taken-done}
-use borrow.Author.Rules.{rules}
 use Rattle.setupbytes.proofs.places.Given as goal
 
 abbrev pub invariant-loop-i : goal.invariant-loop-i

@@ -1,11 +1,8 @@
--- What the check does not find by itself of `setupbytes::put`. Assumes nothing.
-use borrow.Author.Rules.{rules}
-use mathlib.Core.Path.{◌≡◌, sym, ◌∙◌}
-use native.Mathlib.Omega.{arith}
+-- `setupbytes::put` meets its contract. Assumes nothing.
+use mathlib.Core.Path.{◌≡◌}
 use Prim.Native.Nat.{◌+◌, ◌-◌, ◌≤◌}
 use lib.ListN.{length, drop}
 use lib.Seq.{sets}
-use Rattle.setupbytes.proofs.Stores.{put_all, put_next, put-done}
 use Rattle.setupbytes.proofs.put.Given as goal
 
 abbrev pub invariant-loop-i : goal.invariant-loop-i

@@ -1,4 +1,4 @@
--- What the check does not find by itself of `setupbytes::put_places`. Assumes nothing.
+-- `setupbytes::put_places` meets its contract. Assumes nothing.
 use mathlib.Core.Path.{◌≡◌}
 use lib.ListN.{length}
 use Rattle.setupbytes.proofs.Stores.{places-put}

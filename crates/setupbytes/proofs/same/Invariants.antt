@@ -1,17 +1,9 @@
--- What the check does not find by itself of `setupbytes::same`. Assumes nothing.
-use mathlib.Core.Path.{◌≡◌, sym, ap, ◌∙◌}
-use mathlib.Core.Logic.{⊎_elim}
-use mathlib.Core.Bool.{Bool, true, ◌&&◌, and-true}
-use native.Mathlib.Numerals.{add-one}
-use native.Mathlib.Omega.{arith}
-use Prim.Native.Nat.{ℕ, ◌+◌, ◌-◌, ◌≤◌}
+-- `setupbytes::same` meets its contract. The loop goes on past a difference, so its invariant says what the test of the bytes passed is, true or false. Assumes nothing.
+use mathlib.Core.Path.{◌≡◌}
+use Prim.Native.Nat.{◌≤◌}
 use lib.Dec.{eqb}
 use lib.ListN.{get_or}
-use borrow.Author.Tests.{eq-eqb, ne_eqb}
 use Rattle.typeset.specs.Sets.{every}
-use Rattle.typeset.proofs.Below.{every-none, every-last, every-no}
-use Rattle.setupbytes.specs.Codec.{same}
-use borrow.Author.Rules.{rules}
 use Rattle.setupbytes.proofs.same.Given as goal
 
 abbrev pub invariant-loop-i : goal.invariant-loop-i

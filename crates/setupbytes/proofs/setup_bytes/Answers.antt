@@ -1,4 +1,4 @@
--- What the check does not find by itself of `setupbytes::setup_bytes`. Assumes nothing.
+-- `setupbytes::setup_bytes` meets its contract. Assumes nothing.
 use mathlib.Core.Path.{◌≡◌}
 use lib.ListN.{length}
 use Rattle.setupbytes.specs.Codec.{setup_bytes}

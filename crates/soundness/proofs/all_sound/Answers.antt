@@ -1,4 +1,4 @@
--- What the check does not find by itself of `soundness::all_sound`. Assumes nothing.
+-- `soundness::all_sound` meets its contract. Assumes nothing.
 use mathlib.Core.Path.{◌≡◌, sym, ◌∙◌}
 use mathlib.Core.Bool.{true}
 use native.Mathlib.Omega.{arith}

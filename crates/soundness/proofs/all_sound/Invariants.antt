@@ -1,4 +1,4 @@
--- What the check does not find by itself of `soundness::all_sound`. Assumes nothing.
+-- `soundness::all_sound` meets its contract. The loop's invariant: each subscriber passed keeps its rules, and the table has the numbers of those passed. Assumes nothing.
 use mathlib.Core.Path.{◌≡◌}
 use mathlib.Core.Bool.{true}
 use Prim.Native.Nat.{◌≤◌}

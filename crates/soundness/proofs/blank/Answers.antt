@@ -1,4 +1,4 @@
--- What the check does not find by itself of `soundness::blank`. Assumes nothing.
+-- `soundness::blank` meets its contract. Assumes nothing.
 use borrow.Author.Tests.{eq-eqb, ne_eqb}
 use Rattle.plan.specs.Rules.{blank}
 use Rattle.soundness.proofs.blank.Goals as goal

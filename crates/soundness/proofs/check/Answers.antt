@@ -1,4 +1,4 @@
--- What the check does not find by itself of `soundness::check`. Assumes nothing.
+-- `soundness::check` meets its contract. Assumes nothing.
 use mathlib.Core.Path.{refl, sym, ◌∙◌}
 use Rattle.plan.specs.Sound.{verdict}
 use Rattle.soundness.proofs.check.Goals as goal

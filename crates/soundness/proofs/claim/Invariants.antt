@@ -1,4 +1,4 @@
--- What the check does not find by itself of `soundness::claim`. Assumes nothing.
+-- `soundness::claim` meets its contract. The loop's invariant looks forward: what the numbers from place x on still do gives the whole result. Assumes nothing.
 use mathlib.Core.Path.{◌≡◌}
 use Prim.Native.Nat.{◌≤◌, ◌-◌}
 use Rattle.plan.proofs.Numbers.{rest}

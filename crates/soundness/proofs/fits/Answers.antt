@@ -1,4 +1,4 @@
--- What the check does not find by itself of `soundness::fits`. Assumes nothing.
+-- `soundness::fits` meets its contract: by how many numbers there are. Assumes nothing.
 use mathlib.Core.Path.{◌≡◌, sym, ◌∙◌}
 use mathlib.Core.Bool.{Bool, ◌&&◌, and-true, and_assoc}
 use mathlib.Core.List.{List}

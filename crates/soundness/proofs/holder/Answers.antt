@@ -1,4 +1,4 @@
--- What the check does not find by itself of `soundness::holder`. Assumes nothing.
+-- `soundness::holder` meets its contract. Assumes nothing.
 use Rattle.plan.specs.Table.{holder}
 use Rattle.soundness.proofs.holder.Goals as goal
 

@@ -1,4 +1,4 @@
--- What the check does not find by itself of `soundness::may_take`. Assumes nothing.
+-- `soundness::may_take` meets its contract. Assumes nothing.
 use mathlib.Core.Path.{◌∙◌, ap}
 use mathlib.Core.Bool.{Bool, ◌||◌}
 use lib.Dec.{eqb}

@@ -1,4 +1,4 @@
--- What the check does not find by itself of `soundness::no_numbers`. Assumes nothing.
+-- `soundness::no_numbers` meets its contract. The loop's invariant: each number passed is 0. Assumes nothing.
 use mathlib.Core.Path.{◌≡◌}
 use mathlib.Core.Bool.{true}
 use Prim.Native.Nat.{◌≤◌}

@@ -1,4 +1,4 @@
--- What the check does not find by itself of `soundness::rest_blank`. Assumes nothing.
+-- `soundness::rest_blank` meets its contract. The loop's invariant: each place passed is in use or blank. Assumes nothing.
 use mathlib.Core.Path.{◌≡◌}
 use mathlib.Core.Bool.{true}
 use Prim.Native.Nat.{◌≤◌}

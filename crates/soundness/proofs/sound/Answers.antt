@@ -1,4 +1,4 @@
--- What the check does not find by itself of `soundness::sound`. Assumes nothing.
+-- `soundness::sound` meets its contract. Assumes nothing.
 use Rattle.typeset.proofs.Bools.{passed, failed}
 use borrow.Author.Tests.{le-leb, lt-leb}
 use Rattle.plan.specs.Sound.{sound}

@@ -1,4 +1,4 @@
--- What the check does not find by itself of `soundness::take_number`. Assumes nothing.
+-- `soundness::take_number` meets its contract. Assumes nothing.
 use Rattle.plan.specs.Table.{entered}
 use Rattle.soundness.proofs.take_number.Goals as goal
 

@@ -1,4 +1,4 @@
--- What the check does not find by itself of `store::access_in`. Assumes nothing.
+-- `store::access_in` meets its contract. Assumes nothing.
 use borrow.Author.Tests.{lt-ltb, le-ltb}
 use borrow.Author.Rules.{rules}
 use Rattle.store.specs.Words.{relation_at}

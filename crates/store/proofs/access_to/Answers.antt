@@ -1,4 +1,4 @@
--- What the check does not find by itself of `store::access_to`. Assumes nothing.
+-- `store::access_to` meets its contract. Assumes nothing.
 use borrow.Author.Tests.{eq-eqb, ne_eqb}
 use borrow.Author.Rules.{rules}
 use Rattle.store.specs.Access.{access_to}

@@ -1,4 +1,4 @@
--- What the check does not find by itself of `store::is_for`. Assumes nothing.
+-- `store::is_for` meets its contract. Assumes nothing.
 use borrow.Author.Tests.{eq-eqb, ne_eqb}
 use borrow.Author.Rules.{rules}
 use Rattle.store.specs.Words.{data_row_at, is_for}

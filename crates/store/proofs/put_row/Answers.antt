@@ -1,4 +1,4 @@
--- What the check does not find by itself of `store::put_row`. Assumes nothing.
+-- `store::put_row` meets its contract. Assumes nothing.
 use borrow.Author.Rules.{rules}
 use Rattle.store.proofs.Words.{put-code}
 use Rattle.store.proofs.put_row.Goals as goal

@@ -1,4 +1,4 @@
--- What the check does not find by itself of `store::read`. Assumes nothing.
+-- `store::read` meets its contract. Assumes nothing.
 use mathlib.Core.Path.{sym, ◌∙◌}
 use native.Mathlib.Omega.{arith}
 use borrow.Author.Count.{below_none}

@@ -1,4 +1,4 @@
--- What the check does not find by itself of `store::row_from`. Assumes nothing.
+-- What the loops of `store::row_from` keep. Assumes nothing.
 use mathlib.Core.Path.{◌≡◌}
 use mathlib.Core.Bool.{false}
 use Prim.Native.Nat.{ℕ, ◌≤◌, ◌<◌}

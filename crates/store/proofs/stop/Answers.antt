@@ -1,4 +1,4 @@
--- What the check does not find by itself of `store::stop`. Assumes nothing.
+-- `store::stop` meets its contract. Assumes nothing.
 use mathlib.Core.Path.{sym, ◌∙◌}
 use mathlib.Core.Logic.{inl, inr}
 use native.Mathlib.Omega.{arith}

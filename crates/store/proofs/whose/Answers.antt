@@ -1,4 +1,4 @@
--- What the check does not find by itself of `store::whose`. Assumes nothing.
+-- `store::whose` meets its contract. Assumes nothing.
 use borrow.Author.Tests.{eq-eqb, ne_eqb}
 use Rattle.store.specs.Access.{whose}
 use Rattle.store.proofs.whose.Goals as goal

@@ -1,4 +1,4 @@
--- What the check does not find by itself of `store::write`. Assumes nothing.
+-- `store::write` meets its contract. Assumes nothing.
 use mathlib.Core.Path.{refl, sym, ◌∙◌}
 use native.Mathlib.Omega.{arith}
 use Rattle.store.specs.Operations.{write}

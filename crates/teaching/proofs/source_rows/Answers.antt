@@ -1,7 +1,6 @@
--- What the check does not find by itself of `teaching::source_rows`. Assumes nothing.
+-- `teaching::source_rows` meets its contract. Assumes nothing.
 use mathlib.Core.Path.{refl}
 use Rattle.teaching.specs.Teaching.{source_rows}
-use borrow.Author.Rules.{rules}
 use Rattle.teaching.proofs.source_rows.Goals as goal
 
 pub returns : goal.returns

@@ -1,4 +1,4 @@
--- What the check does not find by itself of `teaching::subscriber`. Assumes nothing.
+-- `teaching::subscriber` meets its contract. Assumes nothing.
 use mathlib.Core.Path.{refl}
 use Rattle.teaching.specs.Teaching.{subscriber}
 use Rattle.teaching.proofs.subscriber.Goals as goal

@@ -1,8 +1,7 @@
--- What the check does not find by itself of `teaching::subscribers`. Assumes nothing.
+-- `teaching::subscribers` meets its contract. Assumes nothing.
 use mathlib.Core.List.{◌∷◌}
 use lib.ListN.{replicate}
-use Rattle.teaching.specs.Teaching.{subscriber, unused, subscribers}
-use borrow.Author.Rules.{rules}
+use Rattle.teaching.specs.Teaching.{unused, subscribers}
 use Rattle.teaching.proofs.subscribers.Goals as goal
 
 pub returns : goal.returns

@@ -1,7 +1,6 @@
--- What the check does not find by itself of `teaching::target_rows`. Assumes nothing.
+-- `teaching::target_rows` meets its contract. Assumes nothing.
 use mathlib.Core.Path.{refl}
 use Rattle.teaching.specs.Teaching.{target_rows}
-use borrow.Author.Rules.{rules}
 use Rattle.teaching.proofs.target_rows.Goals as goal
 
 pub returns : goal.returns

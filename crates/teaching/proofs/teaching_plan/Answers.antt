@@ -1,6 +1,5 @@
--- What the check does not find by itself of `teaching::teaching_plan`. Assumes nothing.
+-- `teaching::teaching_plan` meets its contract. Assumes nothing.
 use Rattle.teaching.specs.Teaching.{teaching}
-use borrow.Author.Rules.{rules}
 use Rattle.teaching.proofs.teaching_plan.Goals as goal
 
 pub returns : goal.returns

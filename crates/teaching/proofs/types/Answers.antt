@@ -1,4 +1,4 @@
--- What the check does not find by itself of `teaching::types`. Assumes nothing.
+-- `teaching::types` meets its contract. Assumes nothing.
 use mathlib.Core.Path.{refl}
 use Rattle.teaching.specs.Teaching.{types}
 use Rattle.teaching.proofs.types.Goals as goal

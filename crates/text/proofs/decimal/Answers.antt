@@ -1,4 +1,4 @@
--- What the check does not find by itself of `text::decimal`. Assumes nothing.
+-- `text::decimal` meets its contract. Assumes nothing.
 use mathlib.Core.Path.{◌≡◌, sym, ◌∙◌}
 use Prim.Native.Nat.{◌-◌}
 use native.Mathlib.Omega.{arith}

@@ -1,4 +1,4 @@
--- What the check does not find by itself of `text::decimal`. Assumes nothing.
+-- `text::decimal` meets its contract. The loop looks forward: the digits still to come, stored from here on, give the whole. Assumes nothing.
 use mathlib.Core.Path.{◌≡◌}
 use Prim.Native.Nat.{◌-◌, ◌≤◌}
 use lib.ListN.{replicate}

@@ -1,4 +1,4 @@
--- What the check does not find by itself of `text::put`. Assumes nothing.
+-- `text::put` meets its contract. Assumes nothing.
 use mathlib.Core.Path.{◌≡◌, refl, sym, ◌∙◌}
 use Prim.Native.Nat.{◌+◌, ◌-◌, ◌<◌, min}
 use native.Mathlib.Omega.{arith}

@@ -1,4 +1,4 @@
--- What the check does not find by itself of `text::put`. Assumes nothing.
+-- `text::put` meets its contract. The loop looks forward: what is still to come, stored from here on, gives the whole. Assumes nothing.
 use mathlib.Core.Path.{◌≡◌}
 use Prim.Native.Nat.{◌+◌, ◌-◌, ◌≤◌}
 use lib.ListN.{length, drop}

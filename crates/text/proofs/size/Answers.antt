@@ -1,4 +1,4 @@
--- What the check does not find by itself of `text::size`. Assumes nothing.
+-- `text::size` meets its contract. Assumes nothing.
 use native.Mathlib.Omega.{arith}
 use borrow.Author.Count.{below_none, below_more}
 use borrow.Author.Tests.{lt-ltb, le-ltb}

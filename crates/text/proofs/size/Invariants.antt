@@ -1,4 +1,4 @@
--- What the check does not find by itself of `text::size`. Assumes nothing.
+-- `text::size` meets its contract. The loop's invariant: the number reaches each count passed. Assumes nothing.
 use mathlib.Core.Path.{◌≡◌}
 use mathlib.Core.Bool.{false}
 use Prim.Native.Nat.{ℕ, ◌+◌, ◌≤◌, ◌<◌}

@@ -1,4 +1,4 @@
--- What the check does not find by itself of `typeset::has`. Assumes nothing.
+-- `typeset::has` meets its contract. Assumes nothing.
 use mathlib.Core.Path.{sym}
 use borrow.Author.Rules.{rules}
 use Rattle.typeset.specs.Sets.{has}

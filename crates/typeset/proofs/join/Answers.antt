@@ -1,4 +1,4 @@
--- What the check does not find by itself of `typeset::join`. Assumes nothing.
+-- `typeset::join` meets its contract. Assumes nothing.
 use Rattle.typeset.proofs.Laws.{join-code}
 use Rattle.typeset.proofs.join.Goals as goal
 

@@ -1,4 +1,4 @@
--- What the check does not find by itself of `typeset::lowest`. Assumes nothing.
+-- `typeset::lowest` meets its contract. Assumes nothing.
 use Rattle.typeset.proofs.Laws.{lowest-code}
 use Rattle.typeset.proofs.lowest.Goals as goal
 

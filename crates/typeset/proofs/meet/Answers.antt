@@ -1,4 +1,4 @@
--- What the check does not find by itself of `typeset::meet`. Assumes nothing.
+-- `typeset::meet` meets its contract. Assumes nothing.
 use Rattle.typeset.proofs.Laws.{meet-code}
 use Rattle.typeset.proofs.meet.Goals as goal
 

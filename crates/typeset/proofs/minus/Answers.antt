@@ -1,4 +1,4 @@
--- What the check does not find by itself of `typeset::minus`. Assumes nothing.
+-- `typeset::minus` meets its contract. Assumes nothing.
 use Rattle.typeset.proofs.Laws.{minus-code}
 use Rattle.typeset.proofs.minus.Goals as goal
 

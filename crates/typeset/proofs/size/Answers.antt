@@ -1,4 +1,4 @@
--- What the check does not find by itself of `typeset::size`. Assumes nothing.
+-- `typeset::size` meets its contract. Assumes nothing.
 use Rattle.typeset.proofs.Laws.{size-code}
 use Rattle.typeset.proofs.size.Goals as goal
 

@@ -1,4 +1,4 @@
--- What the check does not find by itself of `typeset::within`. Assumes nothing.
+-- `typeset::within` meets its contract. Assumes nothing.
 use Rattle.typeset.proofs.Laws.{within-code}
 use Rattle.typeset.proofs.within.Goals as goal
 

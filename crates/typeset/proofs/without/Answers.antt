@@ -1,4 +1,4 @@
--- What the check does not find by itself of `typeset::without`. Assumes nothing.
+-- `typeset::without` meets its contract. Assumes nothing.
 use mathlib.Core.Path.{sym}
 use Rattle.typeset.proofs.Laws.{without-code, without-past}
 use Rattle.typeset.proofs.without.Goals as goal

@@ -1,4 +1,4 @@
--- What the check does not find by itself of `zone::empty_zone`. Assumes nothing.
+-- `zone::empty_zone` meets its contract. Assumes nothing.
 use mathlib.Core.Path.{refl}
 use Rattle.zone.specs.Order.{held}
 use Rattle.zone.proofs.empty_zone.Goals as goal

@@ -1,9 +1,8 @@
--- What the check does not find by itself of `zone::next`. Assumes nothing.
+-- `zone::next` meets its contract. Assumes nothing.
 use mathlib.Core.Path.{sym, ◌∙◌, ap}
-use borrow.Author.Rules.{rules}
 use borrow.Author.Tests.{ne_eqb}
 use Rattle.typeset.specs.Sets.{lowest}
-use Rattle.zone.specs.Order.{unpreceded, next}
+use Rattle.zone.specs.Order.{next}
 use Rattle.zone.proofs.next.Goals as goal
 
 pub returns-then-free-eq0 : goal.returns-then-free-eq0

@@ -1,11 +1,8 @@
--- What the check does not find by itself of `zone::preceded`. Assumes nothing.
-use Prim.Native.Nat.{◌<◌, ◌^◌}
+-- `zone::preceded` meets its contract. Assumes nothing.
 use native.Mathlib.Omega.{arith}
-use borrow.Author.Rules.{rules}
-use Rattle.typeset.specs.Sets.{size}
 use Rattle.typeset.proofs.Laws.{join-lt, without-lt}
 use Rattle.typeset.proofs.Taken.{taken-below, taken-has, taken-less}
-use Rattle.zone.proofs.Rows.{Found, found_none, found-row, found_all}
+use Rattle.zone.proofs.Rows.{found_none, found-row, found_all}
 use Rattle.zone.proofs.preceded.Goals as goal
 
 pub loop-rest-init : goal.loop-rest-init

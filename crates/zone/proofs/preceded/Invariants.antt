@@ -1,11 +1,7 @@
--- What the check does not find by itself of `zone::preceded`. Assumes nothing.
+-- `zone::preceded` meets its contract. The invariant says, of each type below 32, that a type of the set precedes it exactly where it was found or a type of the rest precedes it. Assumes nothing.
 use Prim.Native.Nat.{◌<◌, ◌^◌}
-use native.Mathlib.Omega.{arith}
-use borrow.Author.Rules.{rules}
 use Rattle.typeset.specs.Sets.{size}
-use Rattle.typeset.proofs.Laws.{join-lt, without-lt}
-use Rattle.typeset.proofs.Taken.{taken-below, taken-has, taken-less}
-use Rattle.zone.proofs.Rows.{Found, found_none, found-row, found_all}
+use Rattle.zone.proofs.Rows.{Found}
 use Rattle.zone.proofs.preceded.Given as goal
 
 abbrev pub invariant-loop-rest : goal.invariant-loop-rest

@@ -1,6 +1,5 @@
--- What the check does not find by itself of `zone::unpreceded`. Assumes nothing.
+-- `zone::unpreceded` meets its contract. Assumes nothing.
 use mathlib.Core.Path.{◌∙◌, ap}
-use borrow.Author.Rules.{rules}
 use Rattle.typeset.specs.Sets.{minus}
 use Rattle.zone.specs.Order.{unpreceded}
 use Rattle.zone.proofs.unpreceded.Goals as goal

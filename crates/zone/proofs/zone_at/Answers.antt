@@ -1,9 +1,8 @@
--- What the check does not find by itself of `zone::zone_at`. Assumes nothing.
+-- `zone::zone_at` meets its contract. Assumes nothing.
 use mathlib.Core.Path.{sym, ◌∙◌}
 use native.Mathlib.Omega.{arith}
 use Rattle.plan.proofs.Lookup.{found_below}
 use Rattle.zone.specs.Answer.{zone_for, zone_at}
-use borrow.Author.Rules.{rules}
 use Rattle.zone.proofs.zone_at.Goals as goal
 
 pub returns-in_default : goal.returns-in_default

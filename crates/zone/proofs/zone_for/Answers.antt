@@ -1,8 +1,7 @@
--- What the check does not find by itself of `zone::zone_for`. Assumes nothing.
+-- `zone::zone_for` meets its contract. Assumes nothing.
 use mathlib.Core.Path.{sym, ◌∙◌}
 use Rattle.plan.specs.Sound.{verdict}
 use Rattle.zone.specs.Answer.{answer}
-use borrow.Author.Rules.{rules}
 use Rattle.zone.proofs.zone_for.Goals as goal
 
 pub returns-then-sound : goal.returns-then-sound

@@ -1,13 +1,8 @@
--- What the check does not find by itself of `zone::zone_of`. Assumes nothing.
-use mathlib.Core.Path.{◌≡◌, refl, sym, ◌∙◌}
-use Prim.Native.Nat.{◌+◌, ◌^◌, ◌<◌}
+-- `zone::zone_of` meets its contract. Assumes nothing.
+use mathlib.Core.Path.{refl, sym, ◌∙◌}
 use native.Mathlib.Omega.{arith}
-use borrow.Author.Rules.{rules}
-use lib.ListN.{replicate}
-use lib.Seq.{sets}
-use Rattle.typeset.specs.Sets.{size}
 use Rattle.typeset.proofs.Laws.{size-le, without-lt}
-use Rattle.zone.specs.Order.{next, zone_list, held}
+use Rattle.zone.specs.Order.{zone_list, held}
 use Rattle.zone.proofs.Rows.{next-lt}
 use Rattle.zone.proofs.Held.{held-stored, zone-fits}
 use Rattle.zone.proofs.Members.{zone-length}

@@ -1,17 +1,10 @@
--- What the check does not find by itself of `zone::zone_of`. Assumes nothing.
-use mathlib.Core.Path.{◌≡◌, refl, sym, ◌∙◌}
+-- `zone::zone_of` meets its contract. The loop's invariant looks forward: the zone of what is left, stored from place n on, gives the whole result. Assumes nothing.
+use mathlib.Core.Path.{◌≡◌}
 use Prim.Native.Nat.{◌+◌, ◌^◌, ◌<◌}
-use native.Mathlib.Omega.{arith}
-use borrow.Author.Rules.{rules}
 use lib.ListN.{replicate}
 use lib.Seq.{sets}
 use Rattle.typeset.specs.Sets.{size}
-use Rattle.typeset.proofs.Laws.{size-le, without-lt}
-use Rattle.zone.specs.Order.{next, zone_list, held}
-use Rattle.zone.proofs.Rows.{next-lt}
-use Rattle.zone.proofs.Held.{held-stored, zone-fits}
-use Rattle.zone.proofs.Members.{zone-length}
-use Rattle.zone.proofs.Zones.{zone-empty, store_step, size_step}
+use Rattle.zone.specs.Order.{zone_list}
 use Rattle.zone.proofs.zone_of.Given as goal
 
 abbrev pub invariant-loop-left : goal.invariant-loop-left

@@ -1,4 +1,4 @@
--- What the check does not find by itself of `call::Call::deliver`. Assumes nothing.
+-- `call::Call::deliver` meets its contract. Assumes nothing.
 use Rattle.std.proofs.Common.{◌≡◌, ◌<◌, false, sym, ap, ◌∙◌, ap₂}
 use Rattle.call.specs.Protocol.{end_of, within, passed, queue_to, slot, takes}
 use Rattle.call.specs.Parts.{replied}

@@ -1,4 +1,4 @@
--- What the check does not find by itself of `call::Call::send`. Assumes nothing.
+-- `call::Call::send` meets its contract. Assumes nothing.
 use Rattle.std.proofs.Common.{sym, ap, ◌∙◌, ap₂}
 use Rattle.call.specs.Protocol.{queue_to, speaks}
 use Rattle.call.specs.Parts.{one_sent}

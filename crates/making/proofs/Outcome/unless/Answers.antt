@@ -1,5 +1,4 @@
--- What the check does not find by itself of `making::Outcome::unless`. Assumes nothing.
-use borrow.Author.Rules.{rules}
+-- `making::Outcome::unless` meets its contract. Assumes nothing.
 use Rattle.making.specs.Making.{but_first}
 use Rattle.making.proofs.Outcome.unless.Goals as goal
 
