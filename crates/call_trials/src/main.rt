@@ -586,8 +586,13 @@ fn long_part(row: &mut [u8], set: Words, w: Words) -> Words {
     long_case(&mut row[..end], set, w)
 }
 
+// The bytes of 1,025 records.
+fn longest_row() -> [u8; 629350] {
+    [0u8; 629350]
+}
+
 fn long_row(set: Words, w: Words) -> Words {
-    let mut row = [0u8; 629350];
+    let mut row = longest_row();
     long_part(&mut row, set, w)
 }
 
