@@ -1,4 +1,4 @@
--- What the check does not find by itself of `dfc::dfc_check`. Assumes nothing.
+-- `dfc::dfc_check` meets its contract. Assumes nothing.
 use mathlib.Core.Path.{sym, ◌∙◌}
 use Rattle.dfc.specs.Files.{checked}
 use Rattle.dfc.proofs.dfc_check.Goals as goal

@@ -1,4 +1,4 @@
--- What the check does not find by itself of `dfc::dfc_continued`. Assumes nothing.
+-- `dfc::dfc_continued` meets its contract. Assumes nothing.
 use mathlib.Core.Path.{refl}
 use Rattle.dfc.specs.Files.{making, room_making, continued_over}
 use Rattle.planread.specs.Reading.{read_of}

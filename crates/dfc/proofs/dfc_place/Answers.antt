@@ -1,4 +1,4 @@
--- What the check does not find by itself of `dfc::dfc_place`. Assumes nothing.
+-- `dfc::dfc_place` meets its contract. Assumes nothing.
 use mathlib.Core.Path.{refl, ap, ◌∙◌}
 use Rattle.dfc.specs.declared.Routed.{Routed}
 use Rattle.dfc.specs.Calls.{placed_as, placed, row_placed, source_placed, target_placed, room_placed}

@@ -1,4 +1,4 @@
--- What the check does not find by itself of `dfc::dfc_route`. Assumes nothing.
+-- `dfc::dfc_route` meets its contract. Assumes nothing.
 use mathlib.Core.Path.{refl}
 use Rattle.dfc.specs.Routes.{routed, room_routed, source_routed, target_routed}
 use Rattle.planread.specs.Reading.{read_of}

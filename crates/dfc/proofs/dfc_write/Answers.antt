@@ -1,4 +1,4 @@
--- What the check does not find by itself of `dfc::dfc_write`. Assumes nothing.
+-- `dfc::dfc_write` meets its contract. Assumes nothing.
 use mathlib.Core.Path.{◌∙◌, ap}
 use Rattle.dfc.specs.Files.{written_said}
 use Rattle.dfc.proofs.Sights.{written_over, room-over}

@@ -1,4 +1,4 @@
--- What the check does not find by itself of `dfc::dfc_zone`. Assumes nothing.
+-- `dfc::dfc_zone` meets its contract. Assumes nothing.
 use mathlib.Core.Path.{refl, ap, ◌∙◌}
 use Rattle.zone.specs.declared.Zone.{Zone}
 use Rattle.zone.specs.Order.{held}

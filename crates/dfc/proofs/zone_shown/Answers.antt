@@ -1,4 +1,4 @@
--- What the check does not find by itself of `dfc::zone_shown`. Assumes nothing.
+-- `dfc::zone_shown` meets its contract. Assumes nothing.
 use mathlib.Core.Path.{sym, ap, ◌∙◌}
 use mathlib.Core.List.{List}
 use Prim.Native.Nat.{ℕ}
