@@ -1,6 +1,6 @@
 /* dfc.h: Plaivoreh's call-routing core for C programs.
  *
- * The archive libdfc.a (made by `rt staticlib dfc`, for x86-64 Linux) has the functions of plans, setups, routing and calls. Those of links, of the
+ * The archive libdfc.a (made by host/build, for x86-64 Linux) has the functions of plans, setups, routing and calls. Those of links, of the
  * index of a plan and of operational data are in archives of their own, named with them below. Each function is proved to give exactly
  * the answer that documents 01 and 02 give, with the byte forms and numbers below, for any bytes and any numbers: no call crashes, hangs, allocates, keeps state between calls
  * or looks at memory that it was not lent.
@@ -216,7 +216,7 @@ dfc_placed dfc_port_place(const uint8_t *file, size_t file_size, const uint8_t *
                           uint8_t *source_list, size_t source_size, uint8_t *target_list, size_t target_size, uint8_t received[DFC_SETUP]);
 dfc_commanded dfc_port_command(uint8_t port[DFC_CALL], uint8_t kind, uint8_t side, uint8_t signal, uint8_t tunnel, uint8_t code);
 
-/* ---- links of a box: who hears whom (archive libdfc_links.a, made by `rt staticlib dfc_links`) */
+/* ---- links of a box: who hears whom (archive libdfc_links.a, made by host/build) */
 
 /* A set of links is 64 numbers: the links, strictly ascending, and 0 in every place that is left; 64 zeros are the empty set. A link is a one-way connection
  * between channel terminations at two different ports of one box, as one number: sink port, sink channel, source port, source channel, 16 bits each, from high
@@ -235,7 +235,7 @@ dfc_answer dfc_links_remove(uint64_t set[DFC_LINKS], uint16_t sink_port, uint16_
 dfc_answer dfc_links_drop(uint64_t set[DFC_LINKS], uint16_t port);
 /* The sources summed into the termination: sources[0] to sources[value - 1], strictly ascending, each port * 65536 + channel; 0 in the places left. Refusal 82. */
 dfc_answer dfc_links_sources(const uint64_t set[DFC_LINKS], uint16_t sink_port, uint16_t sink_channel, uint32_t sources[DFC_LINKS]);
-/* WHO SUBSCRIBES TO A TYPE. The archive libdfc_index.a (`rt staticlib dfc_index`) has the functions below, with the same promises. It may be linked beside libdfc.a.
+/* WHO SUBSCRIBES TO A TYPE. The archive libdfc_index.a (made by host/build) has the functions below, with the same promises. It may be linked beside libdfc.a.
  * An index is 64 rows of 257 numbers: row t for the type t in the source region, row 32 + t for the type t in the target region. A row has the addresses that subscribe to the type there,
  * ascending, then 0 in each place left of 256, and in place 256 how many they are. Refusals:
  *   45  the address is not in the plan                47  the index is not the plan's: some place differs
@@ -259,7 +259,7 @@ dfc_listed dfc_index_look(const uint32_t index[DFC_INDEX_ROWS][DFC_INDEX_PLACES]
 /* The subscriber with this address is given two other sets (bit t for the type t): the file of the changed plan is written into the room, and the lists that change are changed in the index, which
  * then is the one that is built from that file. value is the file's length, which does not change. Refusals 20 to 24; 25 where the room is shorter than the file (place 0); 45, 46, 47; in that order. */
 dfc_answer dfc_index_update(const uint8_t *file, size_t file_size, dfc_index index, uint32_t address, uint32_t source, uint32_t target, uint8_t *room, size_t room_size);
-/* ---- operational data (archive libdfc_store.a) */
+/* ---- operational data (archive libdfc_store.a, made by host/build) */
 
 /* Feature boxes keep data in relations of data rows: an owner, a key and a number. ('Row' is a data row in this section, not a row of call records.) The memory is
  * the caller's, all of it numbers, and any numbers have a meaning.

@@ -1,4 +1,4 @@
-// The core for programs in other languages: functions on numbers and lent bytes, over a plan file. The header is include/dfc.h.
+// The core for programs in other languages: functions on numbers and lent bytes, over a plan file. The header is include/dfc.h; the crate `dfc_c` makes the archive.
 #![tactic(auto)]
 
 ghost use Rattle.std.specs.Prelude.{◌≡◌, ℕ, ◌≤◌, ◌<◌, length};

@@ -371,3 +371,6 @@ answered z e g = (five-bytes z ∙ (said-as z e g).0, omega arith, (said-as z e 
 
 pub answered-no : (b : List ℕ) (at : ℕ) {t : Stepped} → t ≡ refusing_at b NoSuchCall → (in_word 10 ≡ commanded_said t.answer) × (10 < 1099511627776) × (b ≡ t.bytes)
 answered-no b at e = rw e (refl, omega arith, refl)
+
+-- what the goals of `three_sent` cite
+pub ruleset three_cases = (three-not, three-full)

@@ -275,6 +275,7 @@ fn accept(row: &mut [u8], at: usize) -> u64
 }
 
 // A waiting callee does not take the call: it sends upack, a status and teardown, all three or none, and is unlinking.
+#[tactic(auto, using(crate::proofs::Acts::three_cases))]
 fn three_sent(row: &mut [u8], at: usize, status: u8) -> u64
     requires { (at + 614 ≤ length row.old) × (status_number (status_said status 0) ≡ status) × (status_code (status_said status 0) ≡ 0) }
     ensures { (in_word result ≡ commanded_said (three_sent_at row.old at (answers (state_said (get_or row.old (at + 1) 0)) Unlinking) (status_said status 0)).answer)

@@ -274,3 +274,6 @@ small_word n h =
 -- a command is answered by an answer, never by a placing
 pub never_placed : (b : List ℕ) (r u : ℕ) (k : Command) → (turn (row_in b) (command r u k)).reply ≡ says (commanded_by (found_in true b r u) b k).answer
 never_placed b r u k = sym (turns_as b r u k refl refl).0
+
+-- what the goals of `found_named` cite
+pub ruleset found_cases = (too_long, past_row, free_record, other-use, found-there)

@@ -96,6 +96,7 @@ enum Found {
 }
 
 // The record r, where it is not free and of this use: 16, 10.
+#[tactic(auto, using(crate::proofs::Turns::found_cases))]
 fn found_named(row: &[u8], r: usize, use_number: u16) -> Found
     ensures { result ≡ found_in true row.now r use_number }
 {

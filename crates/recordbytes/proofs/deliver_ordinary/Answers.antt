@@ -5,7 +5,6 @@ use lib.ListN.{length-set}
 use Rattle.recordbytes.specs.Numbers.{side_of}
 use lib.ListN.{get_or}
 use mathlib.Core.Path.{◌≡◌, refl, sym, ap, ◌∙◌}
-use borrow.Author.Tests.{not-true, not-false}
 use Rattle.ends.specs.declared.Signal.TheVariants.{Ordinary}
 use Rattle.signalbytes.specs.Numbers.{status_said}
 use Rattle.recordbytes.specs.Records.{queue_place}
@@ -28,13 +27,13 @@ pub returns-then-not-ordinary : goal.returns-then-not-ordinary
 returns-then-not-ordinary c =
     let a = c.args in
     let heads : Ordinary (get_or a.row.now (a.at + queue_place (side_of a.side) + 2) 0) (status_said (get_or a.row.now (a.at + queue_place (side_of a.side) + 1) 0) (get_or a.row.now (a.at + queue_place (side_of a.side) + 3) 0)) ≡ Ordinary (get_or a.row.now (a.at + c.queue_to.result + 2) 0) (status_said (get_or a.row.now (a.at + c.queue_to.result + 1) 0) (get_or a.row.now (a.at + c.queue_to.result + 3) 0)) = ap (λ (q : ℕ). Ordinary (get_or a.row.now (a.at + q + 2) 0) (status_said (get_or a.row.now (a.at + q + 1) 0) (get_or a.row.now (a.at + q + 3) 0))) (sym c.queue_to.ensures.0) in
-    not-ordinary a.row.now a.at (side_of a.side) c.requires.1 c.requires.2 c.state_place-n.ensures.0 (get_or a.row.now (a.at + c.queue_to.result + 1) 0) (get_or a.row.now (a.at + c.queue_to.result + 2) 0) (get_or a.row.now (a.at + c.queue_to.result + 3) 0) (c.requires.3 ∙ heads) c.if-state-lt3.false (sym c.is_ordinary-ordinary.ensures ∙ not-true _ c.if-not-ordinary.true-raw)
+    not-ordinary a.row.now a.at (side_of a.side) c.requires.1 c.requires.2 c.state_place-n.ensures.0 (get_or a.row.now (a.at + c.queue_to.result + 1) 0) (get_or a.row.now (a.at + c.queue_to.result + 2) 0) (get_or a.row.now (a.at + c.queue_to.result + 3) 0) (c.requires.3 ∙ heads) c.if-state-lt3.false (sym c.is_ordinary-ordinary.ensures ∙ c.if-not-ordinary.true)
 
 pub returns-then-not-fit : goal.returns-then-not-fit
 returns-then-not-fit c =
     let a = c.args in
     let heads : Ordinary (get_or a.row.now (a.at + queue_place (side_of a.side) + 2) 0) (status_said (get_or a.row.now (a.at + queue_place (side_of a.side) + 1) 0) (get_or a.row.now (a.at + queue_place (side_of a.side) + 3) 0)) ≡ Ordinary (get_or a.row.now (a.at + c.queue_to.result + 2) 0) (status_said (get_or a.row.now (a.at + c.queue_to.result + 1) 0) (get_or a.row.now (a.at + c.queue_to.result + 3) 0)) = ap (λ (q : ℕ). Ordinary (get_or a.row.now (a.at + q + 2) 0) (status_said (get_or a.row.now (a.at + q + 1) 0) (get_or a.row.now (a.at + q + 3) 0))) (sym c.queue_to.ensures.0) in
-    unfit a.row.now a.at (side_of a.side) c.requires.1 c.requires.2 c.state_place-n.ensures.0 (get_or a.row.now (a.at + c.queue_to.result + 1) 0) (get_or a.row.now (a.at + c.queue_to.result + 2) 0) (get_or a.row.now (a.at + c.queue_to.result + 3) 0) (c.requires.3 ∙ heads) c.if-state-lt3.false (sym c.is_ordinary-ordinary.ensures ∙ not-false _ c.if-not-ordinary.false-raw) c.tunnel_place.ensures.2 c.tunnel_place.ensures.0 c.next_channel-next.ensures (sym c.fits-fit.ensures ∙ not-true _ c.if-not-fit.true-raw)
+    unfit a.row.now a.at (side_of a.side) c.requires.1 c.requires.2 c.state_place-n.ensures.0 (get_or a.row.now (a.at + c.queue_to.result + 1) 0) (get_or a.row.now (a.at + c.queue_to.result + 2) 0) (get_or a.row.now (a.at + c.queue_to.result + 3) 0) (c.requires.3 ∙ heads) c.if-state-lt3.false (sym c.is_ordinary-ordinary.ensures ∙ c.if-not-ordinary.false) c.tunnel_place.ensures.2 c.tunnel_place.ensures.0 c.next_channel-next.ensures (sym c.fits-fit.ensures ∙ c.if-not-fit.true)
 
 pub touch-requires : goal.touch-requires
 touch-requires c =
@@ -54,4 +53,4 @@ returns c =
     let a = c.args in
     let heads : Ordinary (get_or a.row.now (a.at + queue_place (side_of a.side) + 2) 0) (status_said (get_or a.row.now (a.at + queue_place (side_of a.side) + 1) 0) (get_or a.row.now (a.at + queue_place (side_of a.side) + 3) 0)) ≡ Ordinary (get_or a.row.now (a.at + c.queue_to.result + 2) 0) (status_said (get_or a.row.now (a.at + c.queue_to.result + 1) 0) (get_or a.row.now (a.at + c.queue_to.result + 3) 0)) = ap (λ (q : ℕ). Ordinary (get_or a.row.now (a.at + q + 2) 0) (status_said (get_or a.row.now (a.at + q + 1) 0) (get_or a.row.now (a.at + q + 3) 0))) (sym c.queue_to.ensures.0) in
     let still = settled-channel a.row.now a.at (side_of a.side) (get_or a.row.now (a.at + c.queue_to.result + 2) 0) c.stays.result c.state_place-n.ensures.0 c.tunnel_place.ensures.0 refl in
-    ordinary-handed a.row.now a.at (side_of a.side) c.requires.1 c.requires.2 c.state_place-n.ensures.0 (get_or a.row.now (a.at + c.queue_to.result + 1) 0) (get_or a.row.now (a.at + c.queue_to.result + 2) 0) (get_or a.row.now (a.at + c.queue_to.result + 3) 0) (c.requires.3 ∙ heads) c.if-state-lt3.false (sym c.is_ordinary-ordinary.ensures ∙ not-false _ c.if-not-ordinary.false-raw) c.tunnel_place.ensures.2 c.tunnel_place.ensures.0 c.next_channel-next.ensures _ c.queue_to.ensures.0 (sym c.fits-fit.ensures ∙ not-false _ c.if-not-fit.false-raw) c.stays.ensures refl (next-still (side_of a.side) (get_or a.row.now (a.at + c.queue_to.result + 2) 0) (get_or a.row.now (a.at + c.queue_to.result + 1) 0) (sym still) c.next_channel-next.ensures) c.touch.ensures c.pop.ensures (rw (← c.kept_code.ensures) c.handed.ensures)
+    ordinary-handed a.row.now a.at (side_of a.side) c.requires.1 c.requires.2 c.state_place-n.ensures.0 (get_or a.row.now (a.at + c.queue_to.result + 1) 0) (get_or a.row.now (a.at + c.queue_to.result + 2) 0) (get_or a.row.now (a.at + c.queue_to.result + 3) 0) (c.requires.3 ∙ heads) c.if-state-lt3.false (sym c.is_ordinary-ordinary.ensures ∙ c.if-not-ordinary.false) c.tunnel_place.ensures.2 c.tunnel_place.ensures.0 c.next_channel-next.ensures _ c.queue_to.ensures.0 (sym c.fits-fit.ensures ∙ c.if-not-fit.false) c.stays.ensures refl (next-still (side_of a.side) (get_or a.row.now (a.at + c.queue_to.result + 2) 0) (get_or a.row.now (a.at + c.queue_to.result + 1) 0) (sym still) c.next_channel-next.ensures) c.touch.ensures c.pop.ensures (rw (← c.kept_code.ensures) c.handed.ensures)

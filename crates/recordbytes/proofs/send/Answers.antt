@@ -4,7 +4,6 @@ use Rattle.recordbytes.specs.Numbers.{side_of}
 use Rattle.call.specs.Protocol.{other}
 use mathlib.Core.Path.{sym, ◌∙◌}
 use Rattle.recordbytes.proofs.Numbers.{channel-no-count}
-use borrow.Author.Tests.{not-true, not-false}
 use Rattle.recordbytes.proofs.Acts.{send-not, send-no-ordinary, send-unfit, send-many, send-more}
 use Rattle.recordbytes.proofs.send.Goals as goal
 
@@ -16,7 +15,7 @@ returns-then-row-at-ne3 c =
 pub returns-then-not-ordinary : goal.returns-then-not-ordinary
 returns-then-not-ordinary c =
     let a = c.args in
-    send-no-ordinary a.row.now a.at (side_of a.side) c.state_place-n.ensures.0 a.tunnel a.signal a.code c.if-row-at-ne3.false (sym c.is_ordinary-ordinary.ensures ∙ not-true _ c.if-not-ordinary.true-raw)
+    send-no-ordinary a.row.now a.at (side_of a.side) c.state_place-n.ensures.0 a.tunnel a.signal a.code c.if-row-at-ne3.false (sym c.is_ordinary-ordinary.ensures ∙ c.if-not-ordinary.true)
 
 pub touch-requires : goal.touch-requires
 touch-requires c =
@@ -32,14 +31,14 @@ push-requires c =
 pub returns-then-not-fit : goal.returns-then-not-fit
 returns-then-not-fit c =
     let a = c.args in
-    send-unfit a.row.now a.at (side_of a.side) c.state_place-n.ensures.0 a.tunnel a.signal a.code c.if-row-at-ne3.false (sym c.is_ordinary-ordinary.ensures ∙ not-false _ c.if-not-ordinary.false-raw) c.tunnel_place.ensures.2 c.tunnel_place.ensures.0 c.next_channel-next.ensures _ (sym c.fits-fit.ensures ∙ not-true _ c.if-not-fit.true-raw) c.forbidden.ensures
+    send-unfit a.row.now a.at (side_of a.side) c.state_place-n.ensures.0 a.tunnel a.signal a.code c.if-row-at-ne3.false (sym c.is_ordinary-ordinary.ensures ∙ c.if-not-ordinary.false) c.tunnel_place.ensures.2 c.tunnel_place.ensures.0 c.next_channel-next.ensures _ (sym c.fits-fit.ensures ∙ c.if-not-fit.true) c.forbidden.ensures
 
 pub returns-then-row-q-gt13 : goal.returns-then-row-q-gt13
 returns-then-row-q-gt13 c =
     let a = c.args in
-    send-many a.row.now a.at (side_of a.side) c.state_place-n.ensures.0 a.tunnel a.signal a.code c.if-row-at-ne3.false (sym c.is_ordinary-ordinary.ensures ∙ not-false _ c.if-not-ordinary.false-raw) c.tunnel_place.ensures.2 c.tunnel_place.ensures.0 c.next_channel-next.ensures c.queue_from.ensures.0 (sym c.fits-fit.ensures ∙ not-false _ c.if-not-fit.false-raw) c.if-row-q-gt13.true
+    send-many a.row.now a.at (side_of a.side) c.state_place-n.ensures.0 a.tunnel a.signal a.code c.if-row-at-ne3.false (sym c.is_ordinary-ordinary.ensures ∙ c.if-not-ordinary.false) c.tunnel_place.ensures.2 c.tunnel_place.ensures.0 c.next_channel-next.ensures c.queue_from.ensures.0 (sym c.fits-fit.ensures ∙ c.if-not-fit.false) c.if-row-q-gt13.true
 
 pub returns : goal.returns
 returns c =
     let a = c.args in
-    send-more a.row.now a.at (side_of a.side) c.state_place-n.ensures.0 a.tunnel a.signal a.code c.if-row-at-ne3.false (sym c.is_ordinary-ordinary.ensures ∙ not-false _ c.if-not-ordinary.false-raw) c.tunnel_place.ensures.2 c.tunnel_place.ensures.0 c.next_channel-next.ensures c.queue_from.ensures.0 (sym c.fits-fit.ensures ∙ not-false _ c.if-not-fit.false-raw) c.if-row-q-gt13.false c.touch.ensures (rw (← c.kept_code.ensures) c.push.ensures)
+    send-more a.row.now a.at (side_of a.side) c.state_place-n.ensures.0 a.tunnel a.signal a.code c.if-row-at-ne3.false (sym c.is_ordinary-ordinary.ensures ∙ c.if-not-ordinary.false) c.tunnel_place.ensures.2 c.tunnel_place.ensures.0 c.next_channel-next.ensures c.queue_from.ensures.0 (sym c.fits-fit.ensures ∙ c.if-not-fit.false) c.if-row-q-gt13.false c.touch.ensures (rw (← c.kept_code.ensures) c.push.ensures)

@@ -5,7 +5,7 @@ use lib.ListN.{length-set}
 use mathlib.Core.Path.{refl, ◌∙◌}
 use Rattle.ends.specs.declared.Side.TheVariants.{Caller, Callee}
 use Rattle.recordbytes.proofs.Numbers.{state-no-count, put_count}
-use Rattle.recordbytes.proofs.Acts.{three-not, three-full, three-put}
+use Rattle.recordbytes.proofs.Acts.{three-put}
 use Rattle.recordbytes.proofs.three_sent.Goals as goal
 
 pub shape_of-row : goal.shape_of-row
@@ -13,28 +13,18 @@ shape_of-row c =
     let a = c.args in
     c.push-3.auto.row ∙ c.push-2.auto.row ∙ c.push.auto.row ∙ length-set a.row.now (a.at + 1) 4
 
-pub returns-then-row-at-ne2 : goal.returns-then-row-at-ne2
-returns-then-row-at-ne2 c =
-    let a = c.args in
-    three-not a.row.now a.at a.status c.if-row-at-ne2.true
-
-pub returns-then-row-at-gt13 : goal.returns-then-row-at-gt13
-returns-then-row-at-gt13 c =
-    let a = c.args in
-    three-full a.row.now a.at a.status c.if-row-at-ne2.false c.if-row-at-gt13.true
-
 pub push-requires : goal.push-requires
 push-requires c =
     let a = c.args in
     let kept = state-no-count a.row.now a.at Callee Caller 4 refl refl in
-    simp length-set (omega (arith, c.requires.0, c.if-row-at-gt13.false, kept))
+    simp length-set (omega (arith, c.requires.0, kept))
 
 pub push-requires-2 : goal.push-requires-2
 push-requires-2 c =
     let a = c.args in
     let kept = state-no-count a.row.now a.at Callee Caller 4 refl refl in
     let one = put_count _ (a.at + 4) 2 0 0 (simp length-set (omega (arith, c.requires.0))) c.push.ensures in
-    omega (arith, c.requires.0, c.if-row-at-gt13.false, kept, one, c.push.auto.row, length-set a.row.now (a.at + 1) 4)
+    omega (arith, c.requires.0, kept, one, c.push.auto.row, length-set a.row.now (a.at + 1) 4)
 
 pub push-requires-3 : goal.push-requires-3
 push-requires-3 c =
@@ -42,9 +32,9 @@ push-requires-3 c =
     let kept = state-no-count a.row.now a.at Callee Caller 4 refl refl in
     let one = put_count _ (a.at + 4) 2 0 0 (simp length-set (omega (arith, c.requires.0))) c.push.ensures in
     let two = put_count _ (a.at + 4) a.status 0 0 (omega (arith, c.requires.0, c.push.auto.row, length-set a.row.now (a.at + 1) 4)) c.push-2.ensures in
-    omega (arith, c.requires.0, c.if-row-at-gt13.false, kept, one, two, c.push.auto.row, c.push-2.auto.row, length-set a.row.now (a.at + 1) 4)
+    omega (arith, c.requires.0, kept, one, two, c.push.auto.row, c.push-2.auto.row, length-set a.row.now (a.at + 1) 4)
 
 pub returns : goal.returns
 returns c =
     let a = c.args in
-    three-put a.row.now a.at a.status c.requires.1 c.requires.2 c.if-row-at-ne2.false c.if-row-at-gt13.false c.push.ensures c.push-2.ensures c.push-3.ensures
+    three-put a.row.now a.at a.status c.requires.1 c.requires.2 c.if-row-at-ne2.false (omega arith) c.push.ensures c.push-2.ensures c.push-3.ensures

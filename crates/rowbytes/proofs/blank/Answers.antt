@@ -1,4 +1,4 @@
--- What the check does not find by itself of `rowbytes::blank`. Assumes nothing.
+-- `rowbytes::blank` meets its contract. Assumes nothing.
 use Rattle.std.proofs.Common.{◌+◌, replicate, sym, refl, ◌∙◌, arith, length-set, rules}
 use Rattle.setupbytes.proofs.Stores.{put_all, put-done}
 use Rattle.rowbytes.proofs.Rows.{blank-next}

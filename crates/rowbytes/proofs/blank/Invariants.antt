@@ -1,4 +1,4 @@
--- What the check does not find by itself of `rowbytes::blank`. Assumes nothing.
+-- What the loops of `rowbytes::blank` keep. Assumes nothing.
 use Rattle.std.proofs.Common.{◌≡◌, ◌+◌, ◌-◌, ◌≤◌, length, drop, replicate}
 use lib.Seq.{sets}
 use Rattle.rowbytes.proofs.blank.Given as goal

@@ -1,4 +1,4 @@
--- What the check does not find by itself of `rowbytes::clear`. Assumes nothing.
+-- `rowbytes::clear` meets its contract. Assumes nothing.
 use Rattle.std.proofs.Common.{◌≡◌, ◌*◌, refl, ap, ◌∙◌, arith, length-set, rules}
 use Rattle.rowbytes.specs.Rows.{records_in, row_in, cleared_in}
 use Rattle.rowbytes.proofs.Rows.{zeros-next, zeros-all, row-cleared}

@@ -1,4 +1,4 @@
--- What the check does not find by itself of `rowbytes::clear`. Assumes nothing.
+-- What the loops of `rowbytes::clear` keep. Assumes nothing.
 use Rattle.std.proofs.Common.{◌≡◌, ◌-◌, ◌*◌, ◌≤◌, ◌++◌, length, drop, replicate}
 use Rattle.rowbytes.specs.Rows.{records_in}
 use Rattle.rowbytes.proofs.clear.Given as goal

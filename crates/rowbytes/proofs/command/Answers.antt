@@ -1,4 +1,4 @@
--- What the check does not find by itself of `rowbytes::command`. Assumes nothing.
+-- `rowbytes::command` meets its contract. Assumes nothing.
 use Rattle.std.proofs.Common.{refl, ap, ◌∙◌}
 use Rattle.recordbytes.specs.Numbers.{command_of, reply_said}
 use Rattle.rowbytes.specs.Rows.{row_in}

@@ -1,4 +1,4 @@
--- What the check does not find by itself of `rowbytes::command_for`. Assumes nothing.
+-- `rowbytes::command_for` meets its contract. Assumes nothing.
 use Rattle.std.proofs.Common.{sym, refl, ◌∙◌}
 use Rattle.rowbytes.proofs.command_for.Goals as goal
 

@@ -1,4 +1,4 @@
--- What the check does not find by itself of `rowbytes::free_in`. Assumes nothing.
+-- `rowbytes::free_in` meets its contract. Assumes nothing.
 use Rattle.std.proofs.Common.{eq-eqb, ne_eqb}
 use Rattle.rowbytes.proofs.Rows.{free-states}
 use Rattle.rowbytes.proofs.free_in.Goals as goal

@@ -1,4 +1,4 @@
--- What the check does not find by itself of `rowbytes::look`. Assumes nothing.
+-- `rowbytes::look` meets its contract. Assumes nothing.
 use Rattle.rowbytes.proofs.look.Goals as goal
 
 pub returns-then-named : goal.returns-then-named

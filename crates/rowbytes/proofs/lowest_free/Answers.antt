@@ -1,4 +1,4 @@
--- What the check does not find by itself of `rowbytes::lowest_free`. Assumes nothing.
+-- `rowbytes::lowest_free` meets its contract. Assumes nothing.
 use Rattle.std.proofs.Common.{sym, ◌∙◌, rules}
 use Rattle.rowbytes.proofs.Rows.{free-start, free-found, free-next, free-end}
 use Rattle.rowbytes.proofs.lowest_free.Goals as goal

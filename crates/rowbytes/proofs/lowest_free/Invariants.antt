@@ -1,4 +1,4 @@
--- What the check does not find by itself of `rowbytes::lowest_free`. Assumes nothing.
+-- What the loops of `rowbytes::lowest_free` keep. Assumes nothing.
 use Rattle.std.proofs.Common.{◌≡◌, ◌+◌, ◌-◌, ◌*◌, ◌≤◌}
 use Rattle.call.specs.Row.{lowest_free}
 use Rattle.rowbytes.specs.Rows.{records_in, records, row_in}

@@ -1,4 +1,4 @@
--- What the check does not find by itself of `rowbytes::place`. Assumes nothing.
+-- `rowbytes::place` meets its contract. Assumes nothing.
 use Rattle.std.proofs.Common.{length, refl, ap, ◌∙◌}
 use Rattle.routing.specs.declared.Outcome.{Outcome}
 use Rattle.routing.specs.Routing.{source_list_after, target_list_after}

@@ -1,4 +1,4 @@
--- What the check does not find by itself of `rowbytes::port_command`. Assumes nothing.
+-- `rowbytes::port_command` meets its contract. Assumes nothing.
 use Rattle.std.proofs.Common.{ℕ, List, refl, ap, ◌∙◌, rules}
 use Rattle.recordbytes.specs.Records.{call_at}
 use Rattle.recordbytes.specs.Numbers.{command_of, commanded_said}

@@ -1,4 +1,4 @@
--- What the check does not find by itself of `rowbytes::port_place`. Assumes nothing.
+-- `rowbytes::port_place` meets its contract. Assumes nothing.
 use Rattle.std.proofs.Common.{rules}
 use Rattle.rowbytes.proofs.Turns.{one-record, one_left}
 use Rattle.rowbytes.proofs.port_place.Goals as goal

@@ -1,4 +1,4 @@
--- What the check does not find by itself of `rowbytes::put_placed`. Assumes nothing.
+-- `rowbytes::put_placed` meets its contract. Assumes nothing.
 use Rattle.std.proofs.Common.{◌*◌, ◌∙◌, arith, length-set}
 use Rattle.rowbytes.proofs.Rows.{put-past, placed-stored, put_in}
 use Rattle.rowbytes.proofs.put_placed.Goals as goal

@@ -1,4 +1,4 @@
--- What the check does not find by itself of `rowbytes::use_at`. Assumes nothing.
+-- `rowbytes::use_at` meets its contract. Assumes nothing.
 use Rattle.rowbytes.proofs.Rows.{use-in, use-past}
 use Rattle.rowbytes.proofs.use_at.Goals as goal
 
