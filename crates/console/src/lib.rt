@@ -81,7 +81,8 @@ pub fn read_line<R: Read>(input: &mut R, line: &mut [u8]) -> io::Result<Line>
 
 // Reads until the room is full or the input ends, and answers how many bytes it put at the start of the room.
 pub fn read_full<R: Read>(input: &mut R, room: &mut [u8]) -> io::Result<usize>
-    ensures { IfOk result (λ n. IsPrefixLen n room.new) }
+    ensures counted { IfOk result (λ n. IsPrefixLen n room.new) }
+    ensures err { OnErr result (length room.new ≡ length room.old) }
 {
     let mut done: usize = 0;
     for _ in 0usize..room.len() {
