@@ -4,7 +4,8 @@
 // A word is a name of letters, a number, or one symbol of a string in quotes. Everything else between words, commas and brackets say, is for the reader. A line that begins with `-` is a remark.
 #![tactic(auto)]
 
-ghost use Rattle.std.specs.Prelude.{◌≡◌, ◌≤◌, ℕ, true, not, length, drop, ◌==◌, slice_index, IfOk, OnErr, IfSome};
+ghost use Rattle.std.specs.Io.KnownBytes.{Consumes, IsAtEnd};
+ghost use Rattle.std.specs.Prelude.{take, ◌<◌, ◌≡◌, ◌≤◌, ℕ, true, not, length, drop, ◌==◌, slice_index, IfOk, OnErr, IfSome};
 ghost use Rattle.std.specs.Counts.{IsPrefixLen};
 ghost use Rattle.typeset.specs.Sets.{every};
 
@@ -51,7 +52,7 @@ pub struct Line {
     pub ended: bool,
 }
 
-// Reads up to a newline, the end or the end of the room. None of the bytes is a newline, and what stood past them stays; that holds too of the bytes before a read that failed. Which bytes they are, the contract of reading does not say.
+// Reads up to a newline, the end or the end of the room. None of the bytes is a newline, and what stood past them stays; that holds too of the bytes before a read that failed. Which bytes they are, its contract does not say.
 pub fn read_line<R: Read>(input: &mut R, line: &mut [u8]) -> io::Result<Line>
     ensures len_in_bounds { IfOk result (λ r. (r.len ≤ length line.new) × (every r.len (λ i. not (slice_index line.new i == 10)) ≡ true) × (drop r.len line.new ≡ drop r.len line.old)) }
     ensures counted { IfOk result (λ r. IsPrefixLen r.len line.new) }
@@ -79,20 +80,23 @@ pub fn read_line<R: Read>(input: &mut R, line: &mut [u8]) -> io::Result<Line>
     })
 }
 
-// Reads until the room is full or the input ends, and answers how many bytes it put at the start of the room.
+// Reads until the room is full or the input ends, and answers how many bytes it put at the start of the room. Where the input's bytes are known, those are its next ones, and a room that is not full says that none is left.
+// After a failed read, what was read until then stands at the start of the room.
 pub fn read_full<R: Read>(input: &mut R, room: &mut [u8]) -> io::Result<usize>
     ensures counted { IfOk result (λ n. IsPrefixLen n room.new) }
-    ensures err { OnErr result (length room.new ≡ length room.old) }
+    ensures bytes { IfOk result (λ n. Consumes (R.remaining input.old) (R.remaining input.new) (take n room.new)) }
+    ensures end { IfOk result (λ n. n < length room.new → IsAtEnd (R.remaining input.new)) }
+    ensures err { OnErr result ((n : ℕ) × (n ≤ length room.new) × Consumes (R.remaining input.old) (R.remaining input.new) (take n room.new)) }
 {
     let mut done: usize = 0;
-    for _ in 0usize..room.len() {
+    while done < room.len() {
         let n = input.read(&mut room[done..])?;
         if n == 0 {
-            break;
+            return Ok(done);
         }
         done += n;
     }
-    Ok(within(done, room))
+    Ok(done)
 }
 
 // ---- arguments
