@@ -2,9 +2,9 @@
 #![tactic(auto)]
 
 ghost use Rattle.std.specs.Prelude.{◌≡◌};
-ghost use Rattle.answers.specs.Said.{place_number, accepted, refusal};
+ghost use Rattle.answers.specs.Said.{place_number, accepted, refusal, answered};
 
-use refusal::{Place, Refusal};
+use refusal::Refusal;
 
 // Number 0 and the operation's value; or the number of a refusal and its place, 0 where it has none.
 #[repr(C)]
@@ -21,20 +21,27 @@ pub fn accepted(value: u64) -> Answer
 }
 
 // The place of a refusal as a number.
-pub fn place_number(place: Place) -> u64
+pub fn place_number(place: Option<usize>) -> u64
     ensures { result ≡ place_number place }
 {
-    match place {
-        Place::Nowhere => 0,
-        Place::At(n) => n as u64,
-    }
+    place.map_or(0, |n| n as u64)
 }
 
 pub fn refused(r: Refusal) -> Answer
     ensures { result ≡ refusal r }
 {
     Answer {
-        number: r.number() as u64,
+        number: r.number().into(),
         value: place_number(r.place()),
+    }
+}
+
+// What an operation answers with: its value, or the refusal.
+pub fn answered(r: Result<u64, Refusal>) -> Answer
+    ensures { result ≡ answered r }
+{
+    match r {
+        Ok(value) => accepted(value),
+        Err(refusal) => refused(refusal),
     }
 }

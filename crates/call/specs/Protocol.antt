@@ -1,5 +1,5 @@
 -- The call protocol (01 'Calls', manual 8; channels: 02 'Ask 2', manual 9): what a command on a call record answers, and the record after it. Every definition computes. Assumes nothing.
-use Rattle.std.specs.Prelude.{ℕ, zero, suc, ◌+◌, ◌-◌, ◌%◌, Bool, true, false, cond, ◌&&◌, List, [], ◌∷◌, ◌++◌, length, drop, replicate, nat_le, slice_index_or, slice_set}
+use Rattle.std.specs.Prelude.{ℕ, zero, suc, ◌+◌, ◌-◌, ◌%◌, Bool, true, false, cond, ◌&&◌, List, [], ◌∷◌, ◌++◌, Option, Some, None, Result, Ok, Err, length, drop, replicate, nat_le, slice_index_or, slice_set}
 use Rattle.refusal.specs.declared.Refusal.{Refusal}
 use Rattle.refusal.specs.declared.Refusal.TheVariants.{NoFreeRecord, NothingWaiting, BrokenRecord}
 use Rattle.refusal.specs.Numbers.{number_of}
@@ -9,18 +9,13 @@ use Rattle.ends.specs.declared.End.{End}
 use Rattle.ends.specs.declared.Status.TheVariants.{Unknown, Unavail}
 use Rattle.ends.specs.declared.Signal.{Signal}
 use Rattle.ends.specs.declared.Signal.TheVariants.{Upack, Ordinary, Teardown, Downack}
-use Rattle.call.specs.declared.Slot.{Slot}
 use Rattle.call.specs.declared.Queue.{Queue}
 use Rattle.call.specs.declared.Call.{Call}
 use Rattle.ends.specs.declared.Side.{Side}
 use Rattle.ends.specs.declared.Side.TheVariants.{Caller, Callee}
 use Rattle.call.specs.declared.Command.{Command}
 use Rattle.call.specs.declared.Command.TheVariants.{Accept, Busy, Unobtainable, Send, Teardown as Hang-up, Deliver}
-use Rattle.call.specs.declared.Answer.{Answer}
-use Rattle.call.specs.declared.Answer.TheVariants.{Accepted, Delivered, Refused}
 use Rattle.call.specs.declared.Step.{Step}
-use Rattle.ends.specs.declared.Verdict.{Verdict}
-use Rattle.ends.specs.declared.Verdict.TheVariants.{Refuse as refuse, Become as become}
 pub use Rattle.ends.specs.Ends.{other, is_idle, is_waiting, is_linked, is_ordinary, within, passed, answers, speaks, tears, hears, takes}
 
 -- THE TWO SIDES
@@ -51,19 +46,19 @@ is_free c = is_idle (state_of Caller c) && is_idle (state_of Callee c)
 
 -- QUEUES
 -- A slot that holds nothing is blank: it has one fixed value, so that no signal of the past can be read there.
-abbrev pub blank : Slot
-blank = record { signal = Upack }
+abbrev pub blank : Signal
+blank = Upack
 
 abbrev pub empty_queue : Queue
 empty_queue = record { slots = replicate 16 blank; count = 0 }
 
 -- The head is at slot 0, and the first `count` slots hold the signals that wait, the oldest first.
-abbrev pub slot : List Slot → ℕ → Slot
+abbrev pub slot : List Signal → ℕ → Signal
 slot xs i = slice_index_or xs i blank
 
-abbrev pub signals : ℕ → List Slot → List Signal
+abbrev pub signals : ℕ → List Signal → List Signal
 signals zero xs = []
-signals (suc n) xs = (slot xs 0).signal ∷ signals n (drop 1 xs)
+signals (suc n) xs = slot xs 0 ∷ signals n (drop 1 xs)
 
 abbrev pub held : Queue → List Signal
 held q = signals q.count q.slots
@@ -74,14 +69,14 @@ waiting s c = held (queue_to s c)
 
 -- A signal goes in at the count.
 abbrev pub push : Queue → Signal → Queue
-push q x = record { slots = slice_set q.slots q.count (record { signal = x }); count = q.count + 1 }
+push q x = record { slots = slice_set q.slots q.count x; count = q.count + 1 }
 
 abbrev pub pushes : Queue → List Signal → Queue
 pushes q [] = q
 pushes q (x ∷ xs) = pushes (push q x) xs
 
 -- n slots from slot j on
-abbrev pub slots_from : ℕ → ℕ → List Slot → List Slot
+abbrev pub slots_from : ℕ → ℕ → List Signal → List Signal
 slots_from zero j xs = []
 slots_from (suc n) j xs = slot xs j ∷ slots_from n (suc j) xs
 
@@ -90,12 +85,12 @@ abbrev pub pop : Queue → Queue
 pop q = record { slots = slots_from 15 1 q.slots ++ blank ∷ []; count = q.count - 1 }
 
 -- Delivery takes the head of what waits; 14 where nothing does.
-abbrev pub deliver : Side → End → List Signal → Verdict
-deliver s e [] = refuse NothingWaiting
+abbrev pub deliver : Side → End → List Signal → Result State Refusal
+deliver s e [] = Err NothingWaiting
 deliver s e (x ∷ w) = takes s e x
 
 -- What comes of a command for an end, with the signals w waiting for it, and n signals waiting for the other end.
-abbrev pub decide : Command → End → List Signal → ℕ → Verdict
+abbrev pub decide : Command → End → List Signal → ℕ → Result State Refusal
 decide Accept e w n = answers e.state Linked
 decide Busy e w n = answers e.state Unlinking
 decide Unobtainable e w n = answers e.state Unlinking
@@ -123,19 +118,19 @@ sends (Deliver e) w = reply w
 
 -- THE VERDICT, in the order of 01 and, for 40 and 41, of 02
 -- 17 where the other end's queue would hold more than 16
-abbrev pub fit : Verdict → ℕ → Verdict
-fit (refuse r) n = refuse r
-fit (become s) n = cond (nat_le n 16) (become s) (refuse BrokenRecord)
+abbrev pub fit : Result State Refusal → ℕ → Result State Refusal
+fit (Err r) n = Err r
+fit (Ok s) n = cond (nat_le n 16) (Ok s) (Err BrokenRecord)
 
 -- 12, 15, 40, 41, 13, 14, and then 17 for a signal that the end can't take and for no room
-abbrev pub judged : Call → Command → Verdict
+abbrev pub judged : Call → Command → Result State Refusal
 judged c k =
     fit (decide k (end_of (actor k) c) (waiting (actor k) c) (queue_to (other (actor k)) c).count)
     ((queue_to (other (actor k)) c).count + length (sends k (waiting (actor k) c)))
 
 -- before those, for every command, 17 where either queue's count is above 16
-abbrev pub verdict : Call → Command → Verdict
-verdict c k = cond (nat_le c.to_caller.count 16 && nat_le c.to_callee.count 16) (judged c k) (refuse BrokenRecord)
+abbrev pub verdict : Call → Command → Result State Refusal
+verdict c k = cond (nat_le c.to_caller.count 16 && nat_le c.to_callee.count 16) (judged c k) (Err BrokenRecord)
 
 -- THE STEP
 -- the record with a side's end, the queue towards it and the queue from it replaced
@@ -154,15 +149,19 @@ pops (Send e tunnel x) q = q
 pops (Hang-up e) q = q
 pops (Deliver e) q = pop q
 
+-- AN ANSWER: what is accepted, with the signal that a delivery hands over; or a refusal
+abbrev pub Answer : Type 0
+Answer = Result (Option Signal) Refusal
+
 -- A delivery answers with the signal handed over. (With nothing waiting it was refused before.)
 abbrev pub hands : Command → List Signal → Answer
-hands Accept w = Accepted
-hands Busy w = Accepted
-hands Unobtainable w = Accepted
-hands (Send e tunnel x) w = Accepted
-hands (Hang-up e) w = Accepted
-hands (Deliver e) [] = Accepted
-hands (Deliver e) (x ∷ w) = Delivered x
+hands Accept w = Ok None
+hands Busy w = Ok None
+hands Unobtainable w = Ok None
+hands (Send e tunnel x) w = Ok None
+hands (Hang-up e) w = Ok None
+hands (Deliver e) [] = Ok None
+hands (Deliver e) (x ∷ w) = Ok (Some x)
 
 -- A signal that is sent, or taken, passes the channel of its tunnel at the acting end.
 abbrev pub channels_by : Command → List Signal → List ℕ → List ℕ
@@ -176,11 +175,11 @@ channels_by (Deliver s) (x ∷ w) cs = passed s false x cs
 
 -- A refusal leaves the record as it was.
 abbrev pub refusing : Call → Refusal → Step
-refusing c r = record { answer = Refused r; call = c }
+refusing c r = record { answer = Err r; call = c }
 
-abbrev pub outcome : Call → Command → Verdict → Step
-outcome c k (refuse r) = refusing c r
-outcome c k (become s) =
+abbrev pub outcome : Call → Command → Result State Refusal → Step
+outcome c k (Err r) = refusing c r
+outcome c k (Ok s) =
     record {
       answer = hands k (waiting (actor k) c);
       call =
@@ -198,9 +197,8 @@ acted c k = outcome c k (judged c k)
 
 -- the number of 01 that an answer is; 0 for what is accepted
 abbrev pub number_in : Answer → ℕ
-number_in Accepted = 0
-number_in (Delivered x) = 0
-number_in (Refused r) = number_of r
+number_in (Ok x) = 0
+number_in (Err r) = number_of r
 
 -- PLACING
 -- The use number is stepped by one; 65,535 is followed by 0.
@@ -228,7 +226,7 @@ placed c = quiet Requesting Waiting (next_use c.use_number)
 
 -- Placing takes a free record, empties its queues, and steps its use number. 11 where the record is not free: it is left as it was.
 abbrev pub placing_in : Call → Step
-placing_in c = cond (is_free c) (record { answer = Accepted; call = placed c }) (refusing c NoFreeRecord)
+placing_in c = cond (is_free c) (record { answer = Ok None; call = placed c }) (refusing c NoFreeRecord)
 
 -- A cleared record: ends idle, queues empty, use number 0.
 abbrev pub cleared : Call

@@ -5,24 +5,17 @@ ghost use Rattle.std.specs.Prelude.{◌≡◌, ◌+◌, ◌-◌, ◌<◌, ◌≤
 ghost use Rattle.call.specs.Protocol as spec;
 ghost use Rattle.call.specs.Parts as parts;
 
-use ends::Verdict;
 pub use ends::{End, Side, Signal, State, Status};
 use refusal::Refusal;
 
-// A place of a queue. It is a struct, since a field that is an array of enums has no proof from the borrow checker.
-#[derive(Clone, Copy)]
-pub struct Slot {
-    pub signal: Signal,
-}
-
-// The signals that wait for an end: the first `count` slots, the oldest at slot 0. In a call that was placed the slots past them are blank.
-#[derive(Clone, Copy)]
+// The signals that wait for an end: the first `count` slots, the oldest at slot 0. In a call that was placed the slots past them are blank. (An array and a count, and no `Vec`: a record is fixed memory.)
+#[derive(Clone, Copy, Debug, PartialEq, Eq)]
 pub struct Queue {
-    pub slots: [Slot; 16],
+    pub slots: [Signal; 16],
     pub count: u8,
 }
 
-#[derive(Clone, Copy)]
+#[derive(Clone, Copy, Debug, PartialEq, Eq)]
 pub struct Call {
     pub caller: End,
     pub callee: End,
@@ -32,7 +25,7 @@ pub struct Call {
 }
 
 // The callee's three answers; an ordinary signal from a side, by tunnel and status; teardown from a side; delivery to a side.
-#[derive(Clone, Copy)]
+#[derive(Clone, Copy, Debug, PartialEq, Eq)]
 pub enum Command {
     Accept,
     Busy,
@@ -42,42 +35,32 @@ pub enum Command {
     Deliver(Side),
 }
 
-// A delivery answers with the signal handed over.
-#[derive(Clone, Copy)]
-pub enum Answer {
-    Accepted,
-    Delivered(Signal),
-    Refused(Refusal),
-}
-
+// The answer to a command, and the record after it. A delivery answers with the signal handed over; a refusal leaves the record as it was.
 #[derive(Clone, Copy)]
 pub struct Step {
-    pub answer: Answer,
+    pub answer: Result<Option<Signal>, Refusal>,
     pub call: Call,
 }
 
-impl Answer {
-    // The number of document 01; 0 for what is accepted.
-    pub fn number(self) -> u8
-        ensures { result ≡ spec.number_in self }
-    {
-        match self {
-            Answer::Accepted => 0,
-            Answer::Delivered(_) => 0,
-            Answer::Refused(r) => r.number(),
-        }
+// The number of document 01 that an answer is; 0 for what is accepted.
+pub fn number(answer: Result<Option<Signal>, Refusal>) -> u8
+    ensures { result ≡ spec.number_in answer }
+{
+    match answer {
+        Ok(_) => 0,
+        Err(r) => r.number(),
     }
 }
+
+// What a slot holds that holds nothing.
+const BLANK: Signal = Signal::Upack;
 
 impl Queue {
     fn empty() -> Queue
         ensures { result ≡ spec.empty_queue }
     {
-        let blank = Slot {
-            signal: Signal::Upack,
-        };
         Queue {
-            slots: [blank; 16],
+            slots: [BLANK; 16],
             count: 0,
         }
     }
@@ -87,44 +70,31 @@ impl Queue {
         requires { self.count < 16 }
         ensures { result ≡ spec.push self x }
     {
-        let n = self.count as usize;
-        self.slots[n] = Slot { signal: x };
-        self.count = self.count + 1;
+        self.slots[usize::from(self.count)] = x;
+        self.count += 1;
         self
     }
 
     fn head(self) -> Signal
-        ensures { result ≡ (spec.slot self.slots 0).signal }
+        ensures { result ≡ spec.slot self.slots 0 }
     {
-        let a = self.slots;
-        let s = a[0];
-        s.signal
+        self.slots[0]
     }
 
     // Without its head: the others one slot down, and the last slot blank, so that no signal that was handed over stays.
+    #[tactic(auto, using(crate::proofs::Pop::moved_down))]
     fn pop(self) -> Queue
         requires { 0 < self.count }
         ensures { result ≡ spec.pop self }
     {
-        let a = self.slots;
-        let blank = Slot {
-            signal: Signal::Upack,
-        };
+        let mut slots = self.slots;
+        slots.copy_within(1..16, 0);
+        slots[15] = BLANK;
         Queue {
-            slots: [
-                a[1], a[2], a[3], a[4], a[5], a[6], a[7], a[8], a[9], a[10], a[11], a[12], a[13],
-                a[14], a[15], blank,
-            ],
+            slots,
             count: self.count - 1,
         }
     }
-}
-
-// 65,535 is followed by 0.
-fn next_use(n: u16) -> u16
-    ensures { result ≡ spec.next_use n }
-{
-    std::num::wrapping_add_u16(n, 1)
 }
 
 impl Call {
@@ -133,15 +103,15 @@ impl Call {
         ensures { result ≡ spec.quiet caller callee use_number }
     {
         let empty = Queue::empty();
-        let unused = [0u8; 256];
+        let channels = [0u8; 256];
         Call {
             caller: End {
                 state: caller,
-                channels: unused,
+                channels,
             },
             callee: End {
                 state: callee,
-                channels: unused,
+                channels,
             },
             to_caller: empty,
             to_callee: empty,
@@ -160,8 +130,7 @@ impl Call {
     pub fn is_free(self) -> bool
         ensures { result ≡ spec.is_free self }
     {
-        let idle = self.caller.is_idle();
-        if idle { self.callee.is_idle() } else { false }
+        self.caller.is_idle() && self.callee.is_idle()
     }
 
     fn end(self, s: Side) -> End
@@ -187,190 +156,158 @@ impl Call {
     fn moved(self, s: Side, end: End, to: Queue, from: Queue) -> Call
         ensures { result ≡ spec.moved s end to from self }
     {
-        let caller = self.caller;
-        let callee = self.callee;
-        let use_number = self.use_number;
         match s {
             Side::Caller => Call {
                 caller: end,
-                callee,
                 to_caller: to,
                 to_callee: from,
-                use_number,
+                ..self
             },
             Side::Callee => Call {
-                caller,
                 callee: end,
                 to_caller: from,
                 to_callee: to,
-                use_number,
+                ..self
             },
         }
     }
 
-    // A refusal leaves the record as it was.
     fn refused(self, r: Refusal) -> Step
         ensures { result ≡ spec.refusing self r }
     {
         Step {
-            answer: Answer::Refused(r),
+            answer: Err(r),
             call: self,
         }
     }
 
-    // A call placed in the record, where it is free: all that it held before is gone, and the use number is one on. 11 where it is not free.
+    // A call placed in the record, where it is free: all that it held before is gone, and the use number is one on, 0 after 65,535. 11 where it is not free.
     pub fn placed(self) -> Step
         ensures { result ≡ spec.placing_in self }
     {
-        let free = self.is_free();
-        if free {
-            let call = Call::quiet(State::Requesting, State::Waiting, next_use(self.use_number));
-            Step {
-                answer: Answer::Accepted,
-                call,
-            }
-        } else {
-            self.refused(Refusal::NoFreeRecord)
+        if !self.is_free() {
+            return self.refused(Refusal::NoFreeRecord);
         }
-    }
-
-    // A side's end goes on and sends one signal.
-    fn one_sent(self, s: Side, v: Verdict, x: Signal) -> Step
-        ensures { result ≡ parts.one_sent self s v x }
-    {
-        match v {
-            Verdict::Refuse(r) => self.refused(r),
-            Verdict::Become(state) => {
-                let to = self.queue(s);
-                let from = self.queue(s.other());
-                if 15 < from.count {
-                    return self.refused(Refusal::BrokenRecord);
-                }
-                let end = self.end(s).after(state, s, true, x);
-                let call = self.moved(s, end, to, from.push(x));
-                Step {
-                    answer: Answer::Accepted,
-                    call,
-                }
-            }
-        }
-    }
-
-    // The callee goes on and sends upack, a status and teardown; all three or none.
-    fn three_sent(self, v: Verdict, status: Status) -> Step
-        ensures { result ≡ parts.three_sent self v status }
-    {
-        match v {
-            Verdict::Refuse(r) => self.refused(r),
-            Verdict::Become(state) => {
-                let to = self.to_callee;
-                let from = self.to_caller;
-                if 13 < from.count {
-                    return self.refused(Refusal::BrokenRecord);
-                }
-                let end = self.callee.within(state);
-                let one = from.push(Signal::Upack);
-                let two = one.push(Signal::Ordinary(0, status));
-                let three = two.push(Signal::Teardown);
-                let call = self.moved(Side::Callee, end, to, three);
-                Step {
-                    answer: Answer::Accepted,
-                    call,
-                }
-            }
-        }
-    }
-
-    fn accept(self) -> Step
-        ensures { result ≡ spec.acted self Command.Accept }
-    {
-        let v = self.callee.answer(State::Linked);
-        self.one_sent(Side::Callee, v, Signal::Upack)
-    }
-
-    fn busy(self) -> Step
-        ensures { result ≡ spec.acted self Command.Busy }
-    {
-        let v = self.callee.answer(State::Unlinking);
-        self.three_sent(v, Status::Unavail)
-    }
-
-    fn unobtainable(self) -> Step
-        ensures { result ≡ spec.acted self Command.Unobtainable }
-    {
-        let v = self.callee.answer(State::Unlinking);
-        self.three_sent(v, Status::Unknown)
-    }
-
-    fn send(self, s: Side, tunnel: u8, status: Status) -> Step
-        ensures { result ≡ spec.acted self (Command.Send s tunnel status) }
-    {
-        let from = self.queue(s.other());
-        let v = self.end(s).speak(s, tunnel, status, from.count);
-        self.one_sent(s, v, Signal::Ordinary(tunnel, status))
-    }
-
-    fn teardown(self, s: Side) -> Step
-        ensures { result ≡ spec.acted self (Command.Teardown s) }
-    {
-        let v = self.end(s).tear();
-        self.one_sent(s, v, Signal::Teardown)
-    }
-
-    // A signal handed over that nothing is sent for.
-    fn given(self, s: Side, end: End, x: Signal) -> Step
-        requires { 0 < (spec.queue_to s self).count }
-        ensures { result ≡ parts.given self s end x (spec.queue_to (spec.other s) self) }
-    {
-        let to = self.queue(s);
-        let from = self.queue(s.other());
-        let left = to.pop();
-        let next = self.moved(s, end, left, from);
         Step {
-            answer: Answer::Delivered(x),
-            call: next,
+            answer: Ok(None),
+            call: Call::quiet(
+                State::Requesting,
+                State::Waiting,
+                self.use_number.wrapping_add(1),
+            ),
         }
     }
 
-    // A signal handed over, and a teardown answered by a downack.
-    fn replied(self, s: Side, end: End, x: Signal) -> Step
+    // A side's end goes to a state and sends one signal.
+    fn one_sent(self, s: Side, state: State, x: Signal) -> Result<Call, Refusal>
+        ensures { result ≡ parts.one_sent self s state x }
+    {
+        let from = self.queue(s.other());
+        if 15 < from.count {
+            return Err(Refusal::BrokenRecord);
+        }
+        let end = self.end(s).after(state, s, true, x);
+        Ok(self.moved(s, end, self.queue(s), from.push(x)))
+    }
+
+    // The callee does not take the call: it sends upack, a status and teardown, all three or none.
+    fn three_sent(self, status: Status) -> Result<Call, Refusal>
+        ensures { result ≡ parts.three_sent self status }
+    {
+        let state = self.callee.answer(State::Unlinking)?;
+        let from = self.to_caller;
+        if 13 < from.count {
+            return Err(Refusal::BrokenRecord);
+        }
+        let one = from.push(Signal::Upack);
+        let two = one.push(Signal::Ordinary(0, status));
+        let three = two.push(Signal::Teardown);
+        Ok(self.moved(
+            Side::Callee,
+            self.callee.within(state),
+            self.to_callee,
+            three,
+        ))
+    }
+
+    fn accept(self) -> Result<Call, Refusal>
+        ensures { result ≡ parts.accepts self }
+    {
+        let state = self.callee.answer(State::Linked)?;
+        self.one_sent(Side::Callee, state, Signal::Upack)
+    }
+
+    fn send(self, s: Side, tunnel: u8, status: Status) -> Result<Call, Refusal>
+        ensures { result ≡ parts.sends self s tunnel status }
+    {
+        let waiting = self.queue(s.other()).count;
+        let state = self.end(s).speak(s, tunnel, status, waiting)?;
+        self.one_sent(s, state, Signal::Ordinary(tunnel, status))
+    }
+
+    fn teardown(self, s: Side) -> Result<Call, Refusal>
+        ensures { result ≡ parts.tears_down self s }
+    {
+        let state = self.end(s).tear()?;
+        self.one_sent(s, state, Signal::Teardown)
+    }
+
+    // A signal handed over to a side's end; a teardown is answered by a downack.
+    fn replied(self, s: Side, end: End, x: Signal) -> Result<Call, Refusal>
         requires { 0 < (spec.queue_to s self).count }
         ensures { result ≡ parts.replied self s end x }
     {
+        let left = self.queue(s).pop();
+        let from = self.queue(s.other());
         match x {
-            Signal::Upack => self.given(s, end, x),
-            Signal::Ordinary(_, _) => self.given(s, end, x),
-            Signal::Downack => self.given(s, end, x),
             Signal::Teardown => {
-                let to = self.queue(s);
-                let back = self.queue(s.other());
-                if 15 < back.count {
-                    return self.refused(Refusal::BrokenRecord);
+                if 15 < from.count {
+                    return Err(Refusal::BrokenRecord);
                 }
-                let left = to.pop();
-                let acked = back.push(Signal::Downack);
-                let call = self.moved(s, end, left, acked);
-                Step {
-                    answer: Answer::Delivered(x),
-                    call,
-                }
+                Ok(self.moved(s, end, left, from.push(Signal::Downack)))
             }
+            _ => Ok(self.moved(s, end, left, from)),
         }
     }
 
-    fn deliver(self, s: Side) -> Step
-        requires { (spec.queue_to (spec.other s) self).count ≤ 16 }
-        ensures { result ≡ spec.acted self (Command.Deliver s) }
+    // The signal handed over, and the record after it.
+    fn deliver(self, s: Side) -> Result<(Signal, Call), Refusal>
+        ensures { result ≡ parts.delivers self s }
     {
         let to = self.queue(s);
         if to.count == 0 {
-            return self.refused(Refusal::NothingWaiting);
+            return Err(Refusal::NothingWaiting);
         }
         let x = to.head();
-        let v = self.end(s).take(s, x);
-        match v {
-            Verdict::Refuse(r) => self.refused(r),
-            Verdict::Become(state) => self.replied(s, self.end(s).after(state, s, false, x), x),
+        let end = self.end(s);
+        let state = end.take(s, x)?;
+        let next = self.replied(s, end.after(state, s, false, x), x)?;
+        Ok((x, next))
+    }
+
+    // The step of a command that sends.
+    fn sent(self, after: Result<Call, Refusal>) -> Step
+        ensures { result ≡ parts.sent self after }
+    {
+        match after {
+            Ok(call) => Step {
+                answer: Ok(None),
+                call,
+            },
+            Err(r) => self.refused(r),
+        }
+    }
+
+    // The step of a delivery.
+    fn handed(self, after: Result<(Signal, Call), Refusal>) -> Step
+        ensures { result ≡ parts.handed self after }
+    {
+        match after {
+            Ok((x, call)) => Step {
+                answer: Ok(Some(x)),
+                call,
+            },
+            Err(r) => self.refused(r),
         }
     }
 
@@ -379,19 +316,16 @@ impl Call {
     pub fn step(self, k: Command) -> Step
         ensures { result ≡ spec.step self k }
     {
-        if 16 < self.to_caller.count {
-            return self.refused(Refusal::BrokenRecord);
-        }
-        if 16 < self.to_callee.count {
+        if 16 < self.to_caller.count || 16 < self.to_callee.count {
             return self.refused(Refusal::BrokenRecord);
         }
         match k {
-            Command::Accept => self.accept(),
-            Command::Busy => self.busy(),
-            Command::Unobtainable => self.unobtainable(),
-            Command::Send(s, tunnel, status) => self.send(s, tunnel, status),
-            Command::Teardown(s) => self.teardown(s),
-            Command::Deliver(s) => self.deliver(s),
+            Command::Accept => self.sent(self.accept()),
+            Command::Busy => self.sent(self.three_sent(Status::Unavail)),
+            Command::Unobtainable => self.sent(self.three_sent(Status::Unknown)),
+            Command::Send(s, tunnel, status) => self.sent(self.send(s, tunnel, status)),
+            Command::Teardown(s) => self.sent(self.teardown(s)),
+            Command::Deliver(s) => self.handed(self.deliver(s)),
         }
     }
 }

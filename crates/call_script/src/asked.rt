@@ -1,235 +1,286 @@
 // What the words of a line stand for: sides, signals, commands, and a call record.
-use crate::names;
-use call::{Call, Command, End, Queue, Side, Signal, Slot, State, Status};
-use console::Words;
+use call::{Call, Command, End, Queue, Side, Signal, State, Status};
+use console::{Word, after, behind, number_after, says};
 
-fn byte(value: u64) -> u8 {
-    if value < 256 { value as u8 } else { 0 }
+// The names that a line may ask with. The last ones only make a line easier to read, or say what is placed.
+const NAMES: [&str; 43] = [
+    "idle",
+    "requesting",
+    "waiting",
+    "linked",
+    "unlinking",
+    "upack",
+    "teardown",
+    "downack",
+    "unknown",
+    "avail",
+    "unavail",
+    "none",
+    "dtmf",
+    "special",
+    "open",
+    "oack",
+    "onack",
+    "ready",
+    "close",
+    "closeack",
+    "accept",
+    "busy",
+    "unobtainable",
+    "send",
+    "deliver",
+    "place",
+    "show",
+    "port",
+    "row",
+    "record",
+    "caller",
+    "callee",
+    "use",
+    "to",
+    "tunnel",
+    "channels",
+    "then",
+    "full",
+    "of",
+    "in",
+    "broken",
+    "malformed",
+    "short",
+];
+
+fn byte(n: u64) -> u8 {
+    u8::try_from(n).unwrap_or(0)
 }
 
-// The number at a place; 0 where the word there is no number.
-pub fn number_at(w: Words, i: usize) -> usize {
-    let value = console::word(w, i);
-    if console::is_number(value) {
-        (value % 1_000_000_000) as usize
-    } else {
-        0
+// 0 where the word there is no byte. (0 and no `Option`, here and below: each caller would put 0 in its place.)
+fn byte_at(words: &[Word], i: usize) -> u8 {
+    match words.get(i) {
+        Some(Word::Number(n)) => byte(*n),
+        _ => 0,
     }
 }
 
-pub fn number_after(w: Words, name: usize) -> usize {
-    (console::number_after(w, names::word(name), 0) % 1_000_000_000) as usize
+fn small(n: u64) -> usize {
+    (n % 1_000_000_000) as usize
 }
 
-fn side_at(w: Words, i: usize) -> Side {
-    if names::at(w, i) == names::CALLER {
+// The number at a place; 0 where the word there is no number.
+pub fn number_at(words: &[Word], i: usize) -> usize {
+    match words.get(i) {
+        Some(Word::Number(n)) => small(*n),
+        _ => 0,
+    }
+}
+
+pub fn number_behind(words: &[Word], name: &str) -> usize {
+    small(number_after(words, name).unwrap_or(0))
+}
+
+// The name at a place; empty where the word there is no name.
+pub fn name_at<'a>(words: &[Word<'a>], i: usize) -> &'a str {
+    match words.get(i) {
+        Some(Word::Name(name)) => name,
+        _ => "",
+    }
+}
+
+fn from<'a, 'w>(words: &'w [Word<'a>], i: usize) -> &'w [Word<'a>] {
+    &words[i.min(words.len())..]
+}
+
+fn side_at(words: &[Word], i: usize) -> Side {
+    if name_at(words, i) == "caller" {
         Side::Caller
     } else {
         Side::Callee
     }
 }
 
-fn state_of(name: usize) -> State {
-    match name {
-        names::IDLE => State::Idle,
-        names::REQUESTING => State::Requesting,
-        names::WAITING => State::Waiting,
-        names::LINKED => State::Linked,
+fn state_of(word: Option<Word>) -> State {
+    let Some(Word::Name(name)) = word else {
+        return State::Unlinking;
+    };
+    match name.as_bytes() {
+        b"idle" => State::Idle,
+        b"requesting" => State::Requesting,
+        b"waiting" => State::Waiting,
+        b"linked" => State::Linked,
         _ => State::Unlinking,
     }
 }
 
-// The tunnel stands behind the signal or behind its code; 0 where none is said.
-fn tunnel_at(w: Words, i: usize) -> u8 {
-    let near = console::part(w, i, i % 200 + 4);
-    byte(console::number_after(near, names::word(names::TUNNEL), 0))
+// The tunnel stands behind the signal that these words begin with, or behind its code; 0 where none is said.
+fn tunnel_of(words: &[Word]) -> u8 {
+    let near = words.get(..4).unwrap_or(words);
+    byte(number_after(near, "tunnel").unwrap_or(0))
 }
 
-fn status_of(name: usize, code: u8) -> Status {
-    match name {
-        names::UNKNOWN => Status::Unknown,
-        names::AVAIL => Status::Avail,
-        names::UNAVAIL => Status::Unavail,
-        names::NONE => Status::None,
-        names::DTMF => Status::Dtmf(code),
-        names::OPEN => Status::Open,
-        names::OACK => Status::Oack,
-        names::ONACK => Status::Onack,
-        names::READY => Status::Ready,
-        names::CLOSE => Status::Close,
-        names::CLOSEACK => Status::Closeack,
+fn status_of(words: &[Word]) -> Status {
+    let code = byte_at(words, 1);
+    match name_at(words, 0).as_bytes() {
+        b"unknown" => Status::Unknown,
+        b"avail" => Status::Avail,
+        b"unavail" => Status::Unavail,
+        b"none" => Status::None,
+        b"dtmf" => Status::Dtmf(code),
+        b"open" => Status::Open,
+        b"oack" => Status::Oack,
+        b"onack" => Status::Onack,
+        b"ready" => Status::Ready,
+        b"close" => Status::Close,
+        b"closeack" => Status::Closeack,
         _ => Status::Special(code),
     }
 }
 
-fn status_at(w: Words, i: usize) -> Status {
-    let code = byte(console::word(w, i % 200 + 1));
-    status_of(names::at(w, i), code)
-}
-
-fn signal_at(w: Words, i: usize) -> Signal {
-    let name = names::at(w, i);
-    match name {
-        names::UPACK => Signal::Upack,
-        names::TEARDOWN => Signal::Teardown,
-        names::DOWNACK => Signal::Downack,
-        _ => Signal::Ordinary(tunnel_at(w, i), status_at(w, i)),
+fn signal_of(words: &[Word]) -> Signal {
+    match name_at(words, 0).as_bytes() {
+        b"upack" => Signal::Upack,
+        b"teardown" => Signal::Teardown,
+        b"downack" => Signal::Downack,
+        _ => Signal::Ordinary(tunnel_of(words), status_of(words)),
     }
 }
 
 // `accept`, `busy`, `unobtainable`, `send SIDE SIGNAL`, `teardown SIDE`, `deliver SIDE`.
-pub fn command_of(w: Words) -> Command {
-    let name = names::at(w, 0);
-    match name {
-        names::ACCEPT => Command::Accept,
-        names::BUSY => Command::Busy,
-        names::UNOBTAINABLE => Command::Unobtainable,
-        names::SEND => Command::Send(side_at(w, 1), tunnel_at(w, 2), status_at(w, 2)),
-        names::TEARDOWN => Command::Teardown(side_at(w, 1)),
-        _ => Command::Deliver(side_at(w, 1)),
+pub fn command_of(words: &[Word]) -> Command {
+    let side = side_at(words, 1);
+    let what = from(words, 2);
+    match name_at(words, 0).as_bytes() {
+        b"accept" => Command::Accept,
+        b"busy" => Command::Busy,
+        b"unobtainable" => Command::Unobtainable,
+        b"send" => Command::Send(side, tunnel_of(what), status_of(what)),
+        b"teardown" => Command::Teardown(side),
+        _ => Command::Deliver(side),
     }
 }
 
 // ---- a record: `caller STATE callee STATE use N, channels N N, to caller N SIGNAL, to callee N SIGNAL`
 
-// The place after `to` and a side; 200 where they are not said.
-fn after_to(w: Words, side: usize) -> usize {
-    let to = names::word(names::TO);
-    let side = names::word(side);
-    for i in 0usize..190usize {
-        if console::word(w, i) == to && console::word(w, i + 1) == side {
-            return i + 2;
+// As many of one signal as are said after `to` and the side, among the first 190 words. The places past them hold it too: what stands there is not to count.
+fn queue_to(words: &[Word], side: &str) -> Queue {
+    let to = [Word::Name("to"), Word::Name(side)];
+    let mut places = words.windows(2).take(190);
+    match places.position(|pair| pair == to.as_slice()) {
+        Some(at) => {
+            let said = from(words, at.saturating_add(2));
+            Queue {
+                slots: [signal_of(from(said, 1)); 16],
+                count: byte_at(said, 0),
+            }
         }
-    }
-    200
-}
-
-// As many of one signal as are said. The places past them hold it too: what stands there is not to count.
-fn queue_to(w: Words, side: usize) -> Queue {
-    let at = after_to(w, side);
-    let signal = if at < 200 {
-        signal_at(w, at + 1)
-    } else {
-        Signal::Upack
-    };
-    let slot = Slot { signal };
-    Queue {
-        slots: [slot; 16],
-        count: byte(console::word(w, at)),
+        None => Queue {
+            slots: [Signal::Upack; 16],
+            count: 0,
+        },
     }
 }
 
 // The state of an end is the word behind its side, which is said before any queue. Its channels are all in one state, which is a number; that need not be one of a channel's.
-fn end_of(w: Words, side: usize, channel: u8) -> End {
-    let state = console::after(w, names::word(side));
+fn end_of(words: &[Word], side: &str, channel: u8) -> End {
     End {
-        state: state_of(names::number(state)),
+        state: state_of(after(words, side)),
         channels: [channel; 256],
     }
 }
 
+pub fn use_of(words: &[Word]) -> u16 {
+    (number_behind(words, "use") % 65536) as u16
+}
+
 // Behind `channels` the caller's number stands, and then the callee's. Every channel is unused where none are said.
-fn caller_channel(w: Words) -> u8 {
-    let at = names::place_of(w, names::CHANNELS);
-    byte(console::word(w, at % 200 + 1))
-}
-
-fn callee_channel(w: Words) -> u8 {
-    let at = names::place_of(w, names::CHANNELS);
-    byte(console::word(w, at % 200 + 2))
-}
-
-pub fn use_of(w: Words) -> u16 {
-    (number_after(w, names::USE) % 65536) as u16
-}
-
-pub fn record_of(w: Words) -> Call {
+pub fn record_of(words: &[Word]) -> Call {
+    let channels = behind(words, Word::Name("channels")).unwrap_or(&[]);
     Call {
-        caller: end_of(w, names::CALLER, caller_channel(w)),
-        callee: end_of(w, names::CALLEE, callee_channel(w)),
-        to_caller: queue_to(w, names::CALLER),
-        to_callee: queue_to(w, names::CALLEE),
-        use_number: use_of(w),
+        caller: end_of(words, "caller", byte_at(channels, 0)),
+        callee: end_of(words, "callee", byte_at(channels, 1)),
+        to_caller: queue_to(words, "caller"),
+        to_callee: queue_to(words, "callee"),
+        use_number: use_of(words),
     }
 }
 
 // ---- a line
 
 // How many records of a row are other than cleared ones: all, or none.
-pub fn filled(w: Words) -> usize {
-    if names::says(w, names::FULL) || names::says(w, names::USE) {
-        number_at(w, 1) % 1026
+pub fn filled(words: &[Word]) -> usize {
+    if says(words, "full") || says(words, "use") {
+        number_at(words, 1) % 1026
     } else {
         0
     }
 }
 
 // For the row where the words name it or a record of it, else for the port.
-pub fn is_for_row(w: Words) -> bool {
-    if names::says(w, names::RECORD) {
-        return true;
-    }
-    names::says(w, names::ROW)
+pub fn is_for_row(words: &[Word]) -> bool {
+    says(words, "record") || says(words, "row")
 }
 
 // A row of more than four records.
-pub fn is_long(w: Words) -> bool {
-    names::at(w, 0) == names::ROW && 4 < number_at(w, 1)
+pub fn is_long(words: &[Word]) -> bool {
+    name_at(words, 0) == "row" && 4 < number_at(words, 1)
 }
 
 // A line without the sign and without a command only sets the scene; a long row can't be set by itself.
-pub fn sets_only(w: Words) -> bool {
-    let first = names::at(w, 0);
-    if console::says(w, console::EQUALS) || names::says(w, names::THEN) || is_long(w) {
-        return false;
-    }
-    names::PORT <= first && first <= names::RECORD && is_clear(w)
+pub fn sets_only(words: &[Word]) -> bool {
+    let asks = words.contains(&Word::Equals) || says(words, "then") || is_long(words);
+    let sets = matches!(name_at(words, 0).as_bytes(), b"port" | b"row" | b"record");
+    !asks && sets && is_clear(words)
 }
 
 // ---- lines that are not clear
 
-// The largest number that may follow a name.
-fn limit_after(name: usize) -> u64 {
-    match name {
-        names::ROW => 1025,
-        names::RECORD | names::USE => 65535,
+// The largest number that may follow a word.
+fn limit_after(word: Option<Word>) -> u64 {
+    match word {
+        Some(Word::Name(name)) => match name.as_bytes() {
+            b"row" => 1025,
+            b"record" | b"use" => 65535,
+            _ => 255,
+        },
         _ => 255,
     }
 }
 
-// A number is not above what its name allows.
-fn is_clear_at(w: Words, before: u64, i: usize) -> bool {
-    let value = console::word(w, i);
-    if console::is_number(value) {
-        return value <= limit_after(names::number(before));
-    }
-    true
-}
-
 // Names of the table alone, and no number above its limit.
-pub fn is_clear(w: Words) -> bool {
-    let mut before = console::NOTHING;
-    for i in 0usize..200usize {
-        if !is_clear_at(w, before, i) {
+pub fn is_clear(words: &[Word]) -> bool {
+    let mut before = None;
+    for word in words {
+        if matches!(word, Word::Number(n) if *n > limit_after(before)) {
             return false;
         }
-        before = console::word(w, i);
+        before = Some(*word);
     }
-    names::all_known(w)
+    console::known(words, &NAMES)
+}
+
+fn is_status(name: &str) -> bool {
+    matches!(
+        name.as_bytes(),
+        b"unknown"
+            | b"avail"
+            | b"unavail"
+            | b"none"
+            | b"dtmf"
+            | b"special"
+            | b"open"
+            | b"oack"
+            | b"onack"
+            | b"ready"
+            | b"close"
+            | b"closeack"
+    )
 }
 
 // A send, a teardown and a delivery name their side, and what is sent is a status.
-pub fn is_command(w: Words) -> bool {
-    let first = names::at(w, 0);
-    let side = names::at(w, 1);
-    let sided = side == names::CALLER || side == names::CALLEE;
-    match first {
-        names::SEND => {
-            let what = names::at(w, 2);
-            sided && names::UNKNOWN <= what && what <= names::CLOSEACK
-        }
-        names::TEARDOWN | names::DELIVER => sided,
-        names::ACCEPT..=names::SHOW => true,
+pub fn is_command(words: &[Word]) -> bool {
+    let is_sided = matches!(name_at(words, 1).as_bytes(), b"caller" | b"callee");
+    match name_at(words, 0).as_bytes() {
+        b"send" => is_sided && is_status(name_at(words, 2)),
+        b"teardown" | b"deliver" => is_sided,
+        b"accept" | b"busy" | b"unobtainable" | b"place" | b"show" => true,
         _ => false,
     }
 }

@@ -2,7 +2,6 @@
 #![tactic(auto)]
 
 pub mod asked;
-pub mod names;
 pub mod told;
 
 ghost use Rattle.std.specs.Prelude.{◌≡◌, [], ◌∷◌, length};
@@ -11,9 +10,10 @@ ghost use Rattle.routing.specs.Routing.{source_list_after, target_list_after};
 ghost use Rattle.placing.specs.Rows.{outcome_in};
 ghost use Rattle.call_script.specs.Lent as spec;
 
-use call::{Answer, Call, Command, Step};
+use call::{Call, Command, Signal, Step};
 use placing::Placed;
 use plan::Plan;
+use refusal::Refusal;
 use setup::Setup;
 
 // ---- lent structs: a local record, or the first of four, is lent to the operation and taken back
@@ -26,10 +26,10 @@ pub fn port_command_in(mut port: Call, k: Command) -> Step
     Step { answer, call: port }
 }
 
-// What a command answers, and the records after it.
+// What a command answers, and the records after it. (This struct and the two below: each has its own fields; a pair would lose the names.)
 #[derive(Clone, Copy)]
 pub struct Answered {
-    pub answer: Answer,
+    pub answer: Result<Option<Signal>, Refusal>,
     pub calls: [Call; 4],
 }
 
@@ -37,7 +37,7 @@ pub struct Answered {
 fn within(n: usize) -> usize
     ensures { result ≡ spec.within n }
 {
-    if 4 < n { 4 } else { n }
+    n.min(4)
 }
 
 // A command for a row that is the first n of these records.
@@ -53,7 +53,7 @@ pub fn command_in(mut calls: [Call; 4], n: usize, r: usize, use_number: u16, k: 
 #[derive(Clone, Copy)]
 pub struct PortPlaced {
     pub call: Call,
-    pub placed: Placed,
+    pub placed: Result<Placed, Refusal>,
 }
 
 pub fn place_port_in(
@@ -74,7 +74,7 @@ pub fn place_port_in(
 // What placing answers, and the records after it.
 #[derive(Clone, Copy)]
 pub struct RowPlaced {
-    pub placed: Placed,
+    pub placed: Result<Placed, Refusal>,
     pub calls: [Call; 4],
 }
 

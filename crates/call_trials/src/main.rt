@@ -8,144 +8,122 @@
 
 mod records;
 
-ghost use Rattle.std.specs.Counts.{IsPrefixLen};
-
 use call::{Call, Command, Side};
-use call_script::{asked, names, told};
-use console::{Tally, Words};
+use call_script::asked::{is_command, is_for_row, name_at, number_at, number_behind};
+use call_script::{asked, told};
+use console::{Tally, Word, before, behind, says};
 use ends::Signal;
 use making::Maker;
+use placing::Placed;
 use plan::{Plan, Seen};
 use recordbytes::Commanded;
+use records::RECORD;
+use refusal::Refusal;
 use setup::Setup;
+use std::alloc::{AllocError, Global};
 use std::io;
 
 // ---- the scene
 
-// A port and a row in bytes, and how many of its four records the row has. The structs are read from them, and what becomes of the structs has to be what becomes of the bytes.
+// A port and a row in bytes, and how many of its four records the row has. The structs are read from them, and what becomes of the structs has to be what becomes of the bytes. An array and a count: what is past the count stays until the next `row`.
 #[derive(Clone, Copy)]
 struct Scene {
-    port: [u8; 614],
+    port: [u8; RECORD],
     row: [u8; 2456],
     count: usize,
 }
 
-// What came, in words, and the scene after it.
-#[derive(Clone, Copy)]
-struct Came {
-    words: Words,
-    scene: Scene,
-}
-
-// A record's bytes, put into a row where it has the place.
-fn put_record(row: &mut [u8], r: usize, c: Call) {
-    let bytes = records::bytes_of(c);
-    let at = r % 1025 * 614;
-    for j in 0usize..614usize {
-        if row.len() <= at + j {
-            return;
-        }
-        row[at + j] = bytes[j];
-    }
-}
-
-fn fill(row: &mut [u8], count: usize, c: Call) {
-    for r in 0usize..count {
-        put_record(row, r, c);
-    }
-}
-
 // A free record with the use number that is said; or a call placed in it.
-fn record_each(w: Words) -> Call {
+fn record_each(words: &[Word]) -> Call {
     let mut c = Call::cleared();
-    if names::says(w, names::FULL) {
-        let s = c.placed();
-        return s.call;
+    if says(words, "full") {
+        return c.placed().call;
     }
-    c.use_number = asked::use_of(w);
+    c.use_number = asked::use_of(words);
     c
 }
 
 // `row N`: cleared, whatever it held; with `full` calls placed in all records, with `use N` free ones of that use number.
-fn make_row(row: &mut [u8], w: Words) {
+fn make_row(alloc: Global, row: &mut [u8], words: &[Word]) -> Result<(), AllocError> {
     rowbytes::clear(row);
-    fill(row, asked::filled(w), record_each(w));
+    let each = records::bytes_of(alloc, &record_each(words))?;
+    for record in row.chunks_mut(RECORD).take(asked::filled(words)) {
+        put(record, &each);
+    }
+    Ok(())
+}
+
+// As many of the bytes as the part of a row has places.
+fn put(part: &mut [u8], bytes: &[u8]) {
+    for (place, byte) in part.iter_mut().zip(bytes) {
+        *place = *byte;
+    }
+}
+
+fn put_record(alloc: Global, row: &mut [u8], r: usize, c: &Call) -> Result<(), AllocError> {
+    put(records::part_of(row, r), &records::bytes_of(alloc, c)?);
+    Ok(())
 }
 
 // The record that a line sets, where it sets one.
-fn put_said(row: &mut [u8], w: Words) {
-    let at = names::place_of(w, names::RECORD);
-    if at < w.count {
-        let said = console::part(w, at, w.count);
-        put_record(row, asked::number_at(said, 1), asked::record_of(said));
+fn put_said(alloc: Global, row: &mut [u8], words: &[Word]) -> Result<(), AllocError> {
+    match behind(words, Word::Name("record")) {
+        Some(said) => put_record(alloc, row, number_at(said, 0), &asked::record_of(said)),
+        None => Ok(()),
     }
 }
 
-fn with_row(s: Scene, w: Words) -> Scene {
-    let mut row = s.row;
-    make_row(&mut row, w);
-    put_said(&mut row, w);
-    let mut r = s;
-    r.row = row;
-    r.count = asked::number_at(w, 1) % 5;
-    r
-}
-
-fn with_port(s: Scene, w: Words) -> Scene {
-    let bytes = if 1 < w.count {
-        records::bytes_of(asked::record_of(w))
-    } else {
-        [0u8; 614]
-    };
-    let mut r = s;
-    r.port = bytes;
-    r
-}
-
-fn with_one(s: Scene, w: Words) -> Scene {
-    let mut row = s.row;
-    put_record(&mut row, asked::number_at(w, 1), asked::record_of(w));
-    let mut r = s;
-    r.row = row;
-    r
-}
-
-// What a line sets: the port, the row, a record of it, or nothing.
-fn scened(s: Scene, w: Words) -> Scene {
-    let first = names::at(w, 0);
-    match first {
-        names::PORT => with_port(s, w),
-        names::ROW => with_row(s, w),
-        names::RECORD => with_one(s, w),
-        _ => s,
+impl Scene {
+    fn new() -> Self {
+        Scene {
+            port: [0; RECORD],
+            row: [0; 2456],
+            count: 0,
+        }
     }
-}
 
-fn record_in(bytes: [u8; 614]) -> Call {
-    records::read(bytes)
-}
-
-fn record_at(row: [u8; 2456], r: usize) -> Call {
-    records::read_at(&row, r)
-}
-
-fn calls_in(row: [u8; 2456]) -> [Call; 4] {
-    [
-        record_at(row, 0),
-        record_at(row, 1),
-        record_at(row, 2),
-        record_at(row, 3),
-    ]
-}
-
-fn with_calls(s: Scene, calls: [Call; 4]) -> Scene {
-    let mut row = s.row;
-    for i in 0usize..4usize {
-        put_record(&mut row, i, calls[i]);
+    // What a line sets: the port, the row, a record of it, or nothing.
+    fn set(&mut self, alloc: Global, words: &[Word]) -> Result<(), AllocError> {
+        match name_at(words, 0).as_bytes() {
+            b"port" if words.len() == 1 => self.port = [0; RECORD],
+            b"port" => put_record(alloc, &mut self.port, 0, &asked::record_of(words))?,
+            b"row" => {
+                make_row(alloc, &mut self.row, words)?;
+                put_said(alloc, &mut self.row, words)?;
+                self.count = number_at(words, 1) % 5;
+            }
+            b"record" => put_said(alloc, &mut self.row, words)?,
+            _ => {}
+        }
+        Ok(())
     }
-    let mut r = s;
-    r.row = row;
-    r
+
+    // The row as it is lent.
+    fn lent_row(&mut self) -> &mut [u8] {
+        let end = self.count.min(4) * RECORD;
+        &mut self.row[..end]
+    }
+
+    fn calls(&self) -> [Call; 4] {
+        [
+            records::read_at(&self.row, 0),
+            records::read_at(&self.row, 1),
+            records::read_at(&self.row, 2),
+            records::read_at(&self.row, 3),
+        ]
+    }
+
+    fn set_calls(&mut self, alloc: Global, calls: &[Call; 4]) -> Result<(), AllocError> {
+        for (r, c) in calls.iter().enumerate() {
+            put_record(alloc, &mut self.row, r, c)?;
+        }
+        Ok(())
+    }
+
+    // The same records, whatever bytes say them: an empty place and an upack, say, are two numbers and one signal.
+    fn has_records_of(&self, other: &Scene) -> bool {
+        self.calls() == other.calls() && records::read(&self.port) == records::read(&other.port)
+    }
 }
 
 // ---- a command by numbers, as the bytes take it
@@ -159,8 +137,8 @@ struct Numbers {
     code: u8,
 }
 
-fn side_number(s: Side) -> u8 {
-    match s {
+fn side_number(side: Side) -> u8 {
+    match side {
         Side::Caller => 0,
         Side::Callee => 1,
     }
@@ -176,10 +154,10 @@ fn bare(kind: u8, side: u8) -> Numbers {
     }
 }
 
-fn sending(s: Side, x: Signal) -> Numbers {
+fn sending(side: Side, x: Signal) -> Numbers {
     Numbers {
         kind: 3,
-        side: side_number(s),
+        side: side_number(side),
         signal: signalbytes::signal_number(x),
         tunnel: signalbytes::signal_tunnel(x),
         code: signalbytes::signal_code(x),
@@ -191,9 +169,9 @@ fn numbers_of(k: Command) -> Numbers {
         Command::Accept => bare(0, 0),
         Command::Busy => bare(1, 0),
         Command::Unobtainable => bare(2, 0),
-        Command::Send(s, tunnel, status) => sending(s, Signal::Ordinary(tunnel, status)),
-        Command::Teardown(s) => bare(4, side_number(s)),
-        Command::Deliver(s) => bare(5, side_number(s)),
+        Command::Send(side, tunnel, status) => sending(side, Signal::Ordinary(tunnel, status)),
+        Command::Teardown(side) => bare(4, side_number(side)),
+        Command::Deliver(side) => bare(5, side_number(side)),
     }
 }
 
@@ -201,484 +179,348 @@ fn low(n: u64) -> u8 {
     (n % 256) as u8
 }
 
-fn answered(c: Commanded) -> Words {
+fn numbers_told(alloc: Global, c: Commanded) -> Result<String, AllocError> {
     let x = signalbytes::signal_said(low(c.signal), low(c.tunnel), low(c.code));
-    told::numbered(c.number, c.delivered, x)
+    told::numbered(alloc, c.number, c.delivered, x)
 }
 
-// ---- a port
+// ---- structs and bytes side by side
 
-fn port_commanded(s: Scene, k: Command) -> Came {
-    let mut port = s.port;
-    let before = record_in(port);
-    let n = numbers_of(k);
-    let answer = rowbytes::port_command(&mut port, n.kind, n.side, n.signal, n.tunnel, n.code);
-    let mut scene = s;
-    scene.port = port;
-    Came {
-        words: told::command(answered(answer), before, record_in(port)),
-        scene,
+// The bytes do what is asked, and a copy of them that is read as structs. A refusal changes no byte, and the structs come to the same, in every place: else a word is told that no line expects.
+fn both<B, S>(
+    alloc: Global,
+    scene: &mut Scene,
+    on_bytes: B,
+    on_structs: S,
+) -> Result<String, AllocError>
+where
+    B: FnOnce(&mut Scene) -> Result<String, AllocError>,
+    S: FnOnce(&mut Scene) -> Result<String, AllocError>,
+    requires bytes { B.IsAlwaysCallable on_bytes }
+    requires structs { S.IsAlwaysCallable on_structs }
+{
+    let before = *scene;
+    let mut other = *scene;
+    let mut told = on_bytes(scene)?;
+    let other_told = on_structs(&mut other)?;
+    let changed = scene.port != before.port || scene.row != before.row;
+    let apart = told != other_told || !scene.has_records_of(&other);
+    if told::is_refused(told.as_str()) && changed {
+        told.push_str(" changed")?;
     }
-}
-
-fn port_stepped(s: Scene, k: Command) -> Came {
-    let port = s.port;
-    let before = record_in(port);
-    let z = call_script::port_command_in(before, k);
-    let answer = z.answer;
-    let after = z.call;
-    let left = records::bytes_of(after);
-    let mut scene = s;
-    scene.port = left;
-    Came {
-        words: told::command(told::answer(answer), before, after),
-        scene,
+    if apart {
+        told.push_str(" apart")?;
     }
+    Ok(told)
 }
 
-// ---- placing: what is placed
+// ---- placing
 
 // The teaching plan; `broken` has more subscribers than a plan may have.
-fn plan_for(w: Words) -> Plan {
+fn plan_for(words: &[Word]) -> Plan {
     let mut plan = teaching::teaching_plan();
-    if names::says(w, names::BROKEN) {
+    if says(words, "broken") {
         plan.count = 257;
     }
     plan
 }
 
 // Line 200 dials 300; `malformed` has no routing address.
-fn setup_for(w: Words) -> Setup {
-    if names::says(w, names::MALFORMED) {
+fn setup_for(words: &[Word]) -> Setup {
+    if says(words, "malformed") {
         return setup::blank_setup();
     }
     let made = making::new_setup(teaching::teaching_plan(), Maker::Line(200), b"300", 0);
-    made.setup
-}
-
-// The source list is lent with 31 places where 18 is to come.
-fn room_for(w: Words, list: &[u8]) -> usize
-    ensures { IsPrefixLen result list.now }
-{
-    console::within(if names::says(w, names::SHORT) { 31 } else { 32 }, list)
+    made.unwrap_or(setup::blank_setup())
 }
 
 fn seen_by(plan: Plan, out: Setup) -> Seen {
     plan::look(plan, out.source, routing::extracted(out))
 }
 
-fn port_placed(s: Scene, w: Words) -> Came {
-    let plan = plan_for(w);
-    let out = setup_for(w);
+// What is told of a placing. With `short` the source list is lent with 31 places where 18 is to come.
+fn place_told<F>(alloc: Global, words: &[Word], place: F) -> Result<String, AllocError>
+where
+    F: FnOnce(Plan, Setup, &mut [u8], &mut [u8]) -> Result<Placed, Refusal>,
+    requires { F.IsAlwaysCallable place }
+{
     let mut source = [told::UNWRITTEN; 32];
     let mut target = [told::UNWRITTEN; 32];
-    let room = room_for(w, &source);
-    let mut port = s.port;
-    let z = rowbytes::port_place(
-        soundness::sound(plan),
-        &mut port,
-        seen_by(plan, out),
-        out,
+    let room = if says(words, "short") { 31 } else { 32 };
+    let placed = place(
+        plan_for(words),
+        setup_for(words),
         &mut source[..room],
         &mut target,
     );
-    let mut scene = s;
-    scene.port = port;
-    Came {
-        words: told::placing(z, source, target),
-        scene,
-    }
+    told::placing(alloc, placed, &source, &target)
 }
 
-fn port_struct_placed(s: Scene, w: Words) -> Came {
-    let mut source = [told::UNWRITTEN; 32];
-    let mut target = [told::UNWRITTEN; 32];
-    let room = room_for(w, &source);
-    let port = s.port;
-    let z = call_script::place_port_in(
-        record_in(port),
-        plan_for(w),
-        setup_for(w),
-        &mut source[..room],
-        &mut target,
-    );
-    let placed = z.placed;
-    let left = records::bytes_of(z.call);
-    let mut scene = s;
-    scene.port = left;
-    Came {
-        words: told::placing(placed, source, target),
-        scene,
+// ---- a port
+
+fn port_by_bytes(alloc: Global, scene: &mut Scene, k: Command) -> Result<String, AllocError> {
+    let before = records::read(&scene.port);
+    let n = numbers_of(k);
+    let port = &mut scene.port;
+    let answer = rowbytes::port_command(port, n.kind, n.side, n.signal, n.tunnel, n.code);
+    let mut told = numbers_told(alloc, answer)?;
+    told::push_command(&mut told, &before, &records::read(&scene.port))?;
+    Ok(told)
+}
+
+fn port_by_structs(alloc: Global, scene: &mut Scene, k: Command) -> Result<String, AllocError> {
+    let before = records::read(&scene.port);
+    let step = call_script::port_command_in(before, k);
+    put_record(alloc, &mut scene.port, 0, &step.call)?;
+    let mut told = told::answer(alloc, step.answer)?;
+    told::push_command(&mut told, &before, &step.call)?;
+    Ok(told)
+}
+
+fn port_placed_by_bytes(
+    alloc: Global,
+    scene: &mut Scene,
+    words: &[Word],
+) -> Result<String, AllocError> {
+    place_told(alloc, words, |plan, out, source, target| {
+        let kept = soundness::sound(plan);
+        let seen = seen_by(plan, out);
+        rowbytes::port_place(kept, &mut scene.port, seen, out, source, target)
+    })
+}
+
+fn port_placed_by_structs(
+    alloc: Global,
+    scene: &mut Scene,
+    words: &[Word],
+) -> Result<String, AllocError> {
+    let mut port = records::read(&scene.port);
+    let told = place_told(alloc, words, |plan, out, source, target| {
+        let after = call_script::place_port_in(port, plan, out, source, target);
+        port = after.call;
+        after.placed
+    })?;
+    put_record(alloc, &mut scene.port, 0, &port)?;
+    Ok(told)
+}
+
+fn for_port(alloc: Global, scene: &mut Scene, words: &[Word]) -> Result<String, AllocError> {
+    if name_at(words, 0) == "place" {
+        return both(
+            alloc,
+            scene,
+            |s| port_placed_by_bytes(alloc, s, words),
+            |s| port_placed_by_structs(alloc, s, words),
+        );
     }
+    let k = asked::command_of(words);
+    both(
+        alloc,
+        scene,
+        |s| port_by_bytes(alloc, s, k),
+        |s| port_by_structs(alloc, s, k),
+    )
 }
 
 // ---- a row
 
-fn mixed(d: u64, b: u8) -> u64 {
-    d % 1_000_003 * 31 + b as u64 + 1
+// The record of a row that a command is for, and its use number.
+fn record_said(words: &[Word]) -> (usize, u16) {
+    (number_behind(words, "record"), asked::use_of(words))
 }
 
-// A check sum of all bytes but the 614 from a place on.
-fn digest(row: &[u8], at: usize) -> u64 {
-    let mut d: u64 = 0;
-    for i in 0usize..row.len() {
-        if i < at || 614 <= i - at {
-            d = mixed(d, row[i]);
-        }
-    }
-    d
-}
-
-// A command for a record of a row: which, by which use number, and what.
-#[derive(Clone, Copy)]
-struct Named {
-    record: usize,
-    use_number: u16,
-    command: Command,
-}
-
-fn named_in(w: Words) -> Named {
-    Named {
-        record: asked::number_after(w, names::RECORD),
-        use_number: asked::use_of(w),
-        command: asked::command_of(w),
-    }
-}
-
-// A refusal changes no byte, and nothing changes a byte of another record.
-fn bytes_commanded(row: &mut [u8], n: Named) -> Words {
-    let at = n.record % 1025 * 614;
-    let k = n.command;
-    let others = digest(row, at);
-    let before = records::read_at(row, n.record);
-    let m = numbers_of(k);
+fn commanded_by_bytes(alloc: Global, row: &mut [u8], words: &[Word]) -> Result<String, AllocError> {
+    let (r, use_number) = record_said(words);
+    let before = records::read_at(row, r);
+    let n = numbers_of(asked::command_of(words));
     let answer = rowbytes::command(
-        row,
-        n.record,
-        n.use_number,
-        m.kind,
-        m.side,
-        m.signal,
-        m.tunnel,
-        m.code,
+        row, r, use_number, n.kind, n.side, n.signal, n.tunnel, n.code,
     );
-    let words = told::command(answered(answer), before, records::read_at(row, n.record));
-    told::unless(words, digest(row, at) != others, names::ELSEWHERE)
+    let mut told = numbers_told(alloc, answer)?;
+    told::push_command(&mut told, &before, &records::read_at(row, r))?;
+    Ok(told)
 }
 
-fn bytes_placed(row: &mut [u8], w: Words) -> Words {
-    let plan = plan_for(w);
-    let out = setup_for(w);
-    let mut source = [told::UNWRITTEN; 32];
-    let mut target = [told::UNWRITTEN; 32];
-    let room = room_for(w, &source);
-    let at = rowbytes::lowest_free(row) % 1025 * 614;
-    let others = digest(row, at);
-    let z = rowbytes::place(
-        soundness::sound(plan),
-        row,
-        seen_by(plan, out),
-        out,
-        &mut source[..room],
-        &mut target,
-    );
-    told::unless(
-        told::placing(z, source, target),
-        digest(row, at) != others,
-        names::ELSEWHERE,
-    )
+fn placed_by_bytes(alloc: Global, row: &mut [u8], words: &[Word]) -> Result<String, AllocError> {
+    place_told(alloc, words, |plan, out, source, target| {
+        let kept = soundness::sound(plan);
+        rowbytes::place(kept, row, seen_by(plan, out), out, source, target)
+    })
 }
 
-// By the bytes, whatever is asked of a row.
-fn bytes_asked(row: &mut [u8], w: Words) -> Words {
-    if names::at(w, 0) == names::PLACE {
-        return bytes_placed(row, w);
+// Whether all records but one are the same.
+fn same_others(before: &[u8], after: &[u8], r: usize) -> bool {
+    let mut both = before.chunks(RECORD).zip(after.chunks(RECORD)).enumerate();
+    both.all(|(i, (x, y))| i == r % 1025 || x == y)
+}
+
+// By the bytes, whatever is asked of a row. Nothing changes a byte of another record: else a word is told that no line expects.
+fn row_by_bytes(alloc: Global, row: &mut [u8], words: &[Word]) -> Result<String, AllocError> {
+    let before = Vec::from_slice(alloc, row)?;
+    let places = name_at(words, 0) == "place";
+    let r = if places {
+        rowbytes::lowest_free(row)
+    } else {
+        number_behind(words, "record")
+    };
+    let mut told = if places {
+        placed_by_bytes(alloc, row, words)?
+    } else {
+        commanded_by_bytes(alloc, row, words)?
+    };
+    if !same_others(&before, row, r) {
+        told.push_str(" elsewhere")?;
     }
-    bytes_commanded(row, named_in(w))
+    Ok(told)
 }
 
-fn row_asked(s: Scene, w: Words) -> Came {
-    let mut row = s.row;
-    let end = console::within(s.count % 5 * 614, &row);
-    let words = bytes_asked(&mut row[..end], w);
-    let mut scene = s;
-    scene.row = row;
-    Came { words, scene }
+fn record_of(calls: &[Call; 4], r: usize) -> Call {
+    calls.get(r).copied().unwrap_or(Call::cleared())
 }
 
-fn record_of(calls: [Call; 4], r: usize) -> Call {
-    if r < 4 { calls[r] } else { Call::cleared() }
+fn row_by_structs(alloc: Global, scene: &mut Scene, words: &[Word]) -> Result<String, AllocError> {
+    let calls = scene.calls();
+    let (r, use_number) = record_said(words);
+    let k = asked::command_of(words);
+    let after = call_script::command_in(calls, scene.count, r, use_number, k);
+    scene.set_calls(alloc, &after.calls)?;
+    let mut told = told::answer(alloc, after.answer)?;
+    let before = record_of(&calls, r);
+    told::push_command(&mut told, &before, &record_of(&after.calls, r))?;
+    Ok(told)
 }
 
-fn row_stepped(s: Scene, n: Named) -> Came {
-    let row = s.row;
-    let calls = calls_in(row);
-    let k = n.command;
-    let z = call_script::command_in(calls, s.count, n.record, n.use_number, k);
-    let answer = z.answer;
-    let left = z.calls;
-    let before = record_of(calls, n.record);
-    Came {
-        words: told::command(told::answer(answer), before, record_of(left, n.record)),
-        scene: with_calls(s, left),
-    }
+fn row_placed_by_structs(
+    alloc: Global,
+    scene: &mut Scene,
+    words: &[Word],
+) -> Result<String, AllocError> {
+    let mut calls = scene.calls();
+    let count = scene.count;
+    let told = place_told(alloc, words, |plan, out, source, target| {
+        let after = call_script::place_in(calls, count, plan, out, source, target);
+        let left = after.calls;
+        calls = left;
+        after.placed
+    })?;
+    scene.set_calls(alloc, &calls)?;
+    Ok(told)
 }
 
-fn row_struct_placed(s: Scene, w: Words) -> Came {
-    let mut source = [told::UNWRITTEN; 32];
-    let mut target = [told::UNWRITTEN; 32];
-    let room = room_for(w, &source);
-    let row = s.row;
-    let z = call_script::place_in(
-        calls_in(row),
-        s.count,
-        plan_for(w),
-        setup_for(w),
-        &mut source[..room],
-        &mut target,
-    );
-    let placed = z.placed;
-    let left = z.calls;
-    Came {
-        words: told::placing(placed, source, target),
-        scene: with_calls(s, left),
-    }
-}
-
-// ---- structs and bytes side by side
-
-fn same_places(a: &[u8], b: &[u8]) -> bool {
-    if a.len() != b.len() {
-        return false;
-    }
-    for i in 0usize..a.len() {
-        if a[i] != b[i] {
-            return false;
-        }
-    }
-    true
-}
-
-fn same_bytes(a: Scene, b: Scene) -> bool {
-    let port = a.port;
-    let row = a.row;
-    let other_port = b.port;
-    let other_row = b.row;
-    same_places(&port, &other_port) && same_places(&row, &other_row)
-}
-
-// The same records, whatever bytes say them: an empty place and an upack, say, are two numbers and one signal.
-fn same_record(a: Call, b: Call) -> bool {
-    let one = records::bytes_of(a);
-    let two = records::bytes_of(b);
-    same_places(&one, &two)
-}
-
-fn same_records(a: Scene, b: Scene) -> bool {
-    let row = a.row;
-    let other_row = b.row;
-    for i in 0usize..4usize {
-        if !same_record(record_at(row, i), record_at(other_row, i)) {
-            return false;
-        }
-    }
-    let port = a.port;
-    let other_port = b.port;
-    same_record(record_in(port), record_in(other_port))
-}
-
-// What came of the bytes. A refusal changes no byte, and the structs come to the same, in every place.
-fn agreed(before: Scene, bytes: Came, structs: Came) -> Came {
-    let words = bytes.words;
-    let scene = bytes.scene;
-    let other_words = structs.words;
-    let other_scene = structs.scene;
-    let changed = told::is_refused(words) && !same_bytes(before, scene);
-    let apart = !console::same_words(words, other_words) || !same_records(scene, other_scene);
-    Came {
-        words: told::unless(
-            told::unless(words, changed, names::CHANGED),
-            apart,
-            names::APART,
-        ),
+fn for_row(alloc: Global, scene: &mut Scene, words: &[Word]) -> Result<String, AllocError> {
+    both(
+        alloc,
         scene,
-    }
+        |s| row_by_bytes(alloc, s.lent_row(), words),
+        |s| {
+            if name_at(words, 0) == "place" {
+                row_placed_by_structs(alloc, s, words)
+            } else {
+                row_by_structs(alloc, s, words)
+            }
+        },
+    )
 }
 
 // ---- a case
 
 // With `tunnel N` the two channels of that tunnel too.
-fn with_channels(words: Words, c: Call, w: Words) -> Words {
-    if !names::says(w, names::TUNNEL) {
-        return words;
-    }
-    told::channels(
-        words,
-        c,
-        (asked::number_after(w, names::TUNNEL) % 256) as u8,
-    )
-}
-
-fn shown(s: Scene, w: Words) -> Came {
-    let port = s.port;
-    let row = s.row;
-    let c = if asked::is_for_row(w) {
-        record_at(row, asked::number_after(w, names::RECORD))
+fn shown(alloc: Global, scene: &Scene, words: &[Word]) -> Result<String, AllocError> {
+    let c = if is_for_row(words) {
+        records::read_at(&scene.row, number_behind(words, "record"))
     } else {
-        record_in(port)
+        records::read(&scene.port)
     };
-    Came {
-        words: with_channels(told::record(c), c, w),
-        scene: s,
+    let mut told = told::record(alloc, &c)?;
+    if says(words, "tunnel") {
+        let tunnel = (number_behind(words, "tunnel") % 256) as u8;
+        told::push_channels(&mut told, &c, tunnel)?;
     }
+    Ok(told)
 }
 
-fn unclear(s: Scene) -> Came {
-    Came {
-        words: told::unclear(),
-        scene: s,
+fn case(alloc: Global, scene: &mut Scene, words: &[Word]) -> Result<String, AllocError> {
+    if !is_command(words) {
+        return format!(in alloc; "unclear");
     }
-}
-
-fn for_row(s: Scene, w: Words) -> Came {
-    let bytes = row_asked(s, w);
-    if names::at(w, 0) == names::PLACE {
-        return agreed(s, bytes, row_struct_placed(s, w));
+    if name_at(words, 0) == "show" {
+        return shown(alloc, scene, words);
     }
-    agreed(s, bytes, row_stepped(s, named_in(w)))
-}
-
-fn for_port(s: Scene, w: Words) -> Came {
-    if names::at(w, 0) == names::PLACE {
-        return agreed(s, port_placed(s, w), port_struct_placed(s, w));
+    if is_for_row(words) {
+        for_row(alloc, scene, words)
+    } else {
+        for_port(alloc, scene, words)
     }
-    let k = asked::command_of(w);
-    agreed(s, port_commanded(s, k), port_stepped(s, k))
-}
-
-fn case(s: Scene, w: Words) -> Came {
-    if !asked::is_command(w) {
-        return unclear(s);
-    }
-    if names::at(w, 0) == names::SHOW {
-        return shown(s, w);
-    }
-    if asked::is_for_row(w) {
-        return for_row(s, w);
-    }
-    for_port(s, w)
 }
 
 // ---- a row of up to 1,025 records, for one line: `row N .., record N .., then COMMAND`
 
 // Bytes alone: a refusal changes none of them.
-fn long_case(row: &mut [u8], set: Words, w: Words) -> Words {
-    make_row(row, set);
-    put_said(row, set);
-    let whole = digest(row, row.len());
-    let words = bytes_asked(row, w);
-    let changed = told::is_refused(words) && digest(row, row.len()) != whole;
-    told::unless(words, changed, names::CHANGED)
-}
-
-fn long_part(row: &mut [u8], set: Words, w: Words) -> Words {
-    let end = console::within(asked::number_at(set, 1) % 1026 * 614, row);
-    long_case(&mut row[..end], set, w)
-}
-
-// The bytes of 1,025 records.
-fn longest_row() -> [u8; 629350] {
-    [0u8; 629350]
-}
-
-fn long_row(set: Words, w: Words) -> Words {
-    let mut row = longest_row();
-    long_part(&mut row, set, w)
+fn long_row(alloc: Global, set: &[Word], words: &[Word]) -> Result<String, AllocError> {
+    let mut row = vec![in alloc; 0; number_at(set, 1) % 1026 * RECORD]?;
+    make_row(alloc, &mut row, set)?;
+    put_said(alloc, &mut row, set)?;
+    let before = row.clone()?;
+    let mut told = row_by_bytes(alloc, &mut row, words)?;
+    if told::is_refused(told.as_str()) && row != before {
+        told.push_str(" changed")?;
+    }
+    Ok(told)
 }
 
 // ---- a line
 
 // What a line sets, and the command that is behind `then`.
-fn set_and_case(s: Scene, set: Words, w: Words) -> Came {
-    if asked::is_long(set) && asked::is_command(w) {
-        return Came {
-            words: long_row(set, w),
-            scene: s,
-        };
+fn set_and_case(
+    alloc: Global,
+    scene: &mut Scene,
+    set: &[Word],
+    words: &[Word],
+) -> Result<String, AllocError> {
+    if asked::is_long(set) && is_command(words) {
+        return long_row(alloc, set, words);
     }
-    case(scened(s, set), w)
+    scene.set(alloc, set)?;
+    case(alloc, scene, words)
 }
 
-fn after_line(s: Scene, asked: Words) -> Came {
+fn came(alloc: Global, scene: &mut Scene, asked: &[Word]) -> Result<String, AllocError> {
     if !asked::is_clear(asked) {
-        return unclear(s);
+        return format!(in alloc; "unclear");
     }
-    let then = names::place_of(asked, names::THEN);
-    if asked.count <= then {
-        return case(s, asked);
+    match behind(asked, Word::Name("then")) {
+        Some(words) => set_and_case(alloc, scene, before(asked, Word::Name("then")), words),
+        None => case(alloc, scene, asked),
     }
-    set_and_case(
-        s,
-        console::part(asked, 0, then),
-        console::part(asked, then + 1, asked.count),
-    )
-}
-
-// The tally and the scene after a line.
-#[derive(Clone, Copy)]
-struct State {
-    tally: Tally,
-    scene: Scene,
-}
-
-fn judged(rt: &impl Print, s: State, text: &[u8], w: Words) -> io::Result<State> {
-    let before = s.scene;
-    let tally = s.tally;
-    let sign = console::place_of(w, console::EQUALS);
-    let came = after_line(before, console::part(w, 0, sign));
-    let words = came.words;
-    let scene = came.scene;
-    Ok(State {
-        tally: console::judged(rt, tally, text, w, words)?,
-        scene,
-    })
 }
 
 // A line without the sign only sets the scene.
-fn one_line(rt: &impl Print, s: State, text: &[u8]) -> io::Result<State> {
-    let tally = console::next_line(s.tally);
-    let scene = s.scene;
+fn one_line(
+    rt: &(impl Print + AllocGlobal),
+    tally: &mut Tally,
+    scene: &mut Scene,
+    text: &[u8],
+) -> io::Result<()> {
+    tally.next_line();
     if console::is_remark(text) {
-        return Ok(State { tally, scene });
+        return Ok(());
     }
-    let w = console::words_of(text);
-    if asked::sets_only(w) {
-        return Ok(State {
-            tally,
-            scene: scened(scene, w),
-        });
+    let alloc = rt.alloc();
+    let small = console::in_small_letters(alloc, text)?;
+    let words = console::words_of(alloc, &small)?;
+    if asked::sets_only(&words) {
+        scene.set(alloc, &words)?;
+        return Ok(());
     }
-    judged(rt, State { tally, scene }, text, w)
+    let came = came(alloc, scene, before(&words, Word::Equals))?;
+    tally.judge(rt, text, &words, came.as_str())
 }
 
 fn main(rt: HostRuntime) -> io::Result<()> {
-    let mut input = rt.reader();
-    let mut text = [0u8; 1000];
-    let mut s = State {
-        tally: console::no_tally(),
-        scene: Scene {
-            port: [0u8; 614],
-            row: [0u8; 2456],
-            count: 0,
-        },
-    };
-    for _ in 0u32..100000u32 {
-        let read = console::read_line(&mut input, &mut text)?;
-        if read.ended {
-            break;
-        }
-        let n = read.len;
-        s = one_line(&rt, s, &text[..n])?;
-    }
-    console::finish(&rt, s.tally)
+    let mut tally = Tally::new();
+    let mut scene = Scene::new();
+    console::for_each_line(&mut rt.reader(), &mut [0; 1000], |text| {
+        one_line(&rt, &mut tally, &mut scene, text)
+    })?;
+    println!(rt; "{tally}")
 }

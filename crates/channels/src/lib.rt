@@ -49,52 +49,41 @@ const TABLE: [u32; 36] = [
     0x9999799, // end_chan
 ];
 
-// Where the part of a role for what is sent or taken begins.
+// Where the part of a role for what is sent or taken begins. (`sends` is a word of the table's four parts, no step.)
 fn part(opens: bool, sends: bool) -> u8
     ensures { (result ≡ layout.part opens sends) × (result ≤ 27) }
 {
-    if opens {
-        if sends { 0 } else { 9 }
-    } else {
-        if sends { 18 } else { 27 }
+    match (opens, sends) {
+        (true, true) => 0,
+        (true, false) => 9,
+        (false, true) => 18,
+        (false, false) => 27,
     }
 }
 
 // The place of a kind's digit in a line.
+#[tactic(auto, unfolding(crate::specs::Layout::column))]
 fn column(kind: u8) -> u32
     ensures { (result ≡ layout.column kind) × (0 < result) }
 {
-    if kind == 0 {
-        return 0x1000000;
+    match kind {
+        0 => 0x1000000,
+        1 => 0x100000,
+        2 => 0x10000,
+        3 => 0x1000,
+        4 => 0x100,
+        5 => 0x10,
+        _ => 1,
     }
-    if kind == 1 {
-        return 0x100000;
-    }
-    if kind == 2 {
-        return 0x10000;
-    }
-    if kind == 3 {
-        return 0x1000;
-    }
-    if kind == 4 {
-        return 0x100;
-    }
-    if kind == 5 { 0x10 } else { 1 }
 }
 
-// The next state of a channel; 9 where there is no step.
+// The next state of a channel; 9 where there is no step. (States and kinds stay numbers: a record's bytes may hold any number for a channel, and keep it; 9 is a digit of the table, and `follows` (channels/Channels) names it.)
 pub fn follows(opens: bool, sends: bool, state: u8, kind: u8) -> u8
     ensures { result ≡ spec.follows opens sends state kind }
 {
-    if state < 9 {
-        if kind < 7 {
-            let at = part(opens, sends) + state;
-            let line = TABLE[at as usize];
-            let digit = line / column(kind) % 16;
-            digit as u8
-        } else {
-            9
-        }
+    if state < 9 && kind < 7 {
+        let line = TABLE[usize::from(part(opens, sends) + state)];
+        (line / column(kind) % 16) as u8
     } else {
         9
     }

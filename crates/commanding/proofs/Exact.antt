@@ -12,8 +12,9 @@ use denote.Triple.Clauses.{AtExit}
 use denote.Triple.Entry.{Res, Args}
 use Rattle.walk.proofs.Exact.{any-two}
 use Rattle.call.specs.Protocol.{number_in}
+use Rattle.call.specs.Row.{Turn, number_of_reply}
 use Rattle.exchange.specs.Said.{number_stepped, number_commanded}
-use Rattle.commanding.proofs.Turns.{answering-fixes, turn-answer}
+use Rattle.commanding.proofs.Turns.{answering-fixes}
 use Rattle.exchange.proofs.Numbered.{step-number}
 use Rattle.commanding.proofs.Numbered.{command-number}
 use Rattle.commanding.specs.contracts.port_command as port-command
@@ -35,4 +36,4 @@ module _ {M : Type 1} {𝓤 : Ura M} (𝓛 : Logic 𝓤) (mem : Memory → SProp
 
   pub command-numbered : (κs : Lfts (command.signature).lifetimes) (a : Args command.signature κs) (g : (command.clauses 𝓛 mem run κs a).ghost) (r : Res command.signature κs) (e : AtExit command.ended κs)
       → ent 𝓤 ((command.clauses 𝓛 mem run κs a).ensures g r e) (fact 𝓤 (number_in r ≡ number_commanded a.0.now a.1.0 a.1.1.0 a.1.1.1.0))
-  command-numbered κs a g r e = fact_mono 𝓤 _ (number_in r ≡ number_commanded a.0.now a.1.0 a.1.1.0 a.1.1.1.0) (λ p. ap number_in (turn-answer a.0.now e.0.now r a.1.0 a.1.1.0 a.1.1.1.0 p) ∙ command-number a.0.now a.1.0 a.1.1.0 a.1.1.1.0)
+  command-numbered κs a g r e = fact_mono 𝓤 _ (number_in r ≡ number_commanded a.0.now a.1.0 a.1.1.0 a.1.1.1.0) (λ p. ap (λ (t : Turn). number_of_reply t.reply) p ∙ command-number a.0.now a.1.0 a.1.1.0 a.1.1.1.0)

@@ -2,268 +2,170 @@
 // A termination is written port.channel. `show` tells who hears whom as a table and as a picture. Lines that begin with `-` are remarks; they and any others are only repeated.
 #![tactic(auto)]
 
-ghost use Rattle.std.specs.Prelude.{◌≤◌, ◌<◌};
+ghost use Rattle.std.specs.Prelude.{◌<◌};
 
-use console::Words;
-use links::{Outcome, Summed, Termination};
+use console::Word;
+use links::Termination;
+use refusal::Refusal;
+use std::alloc::{AllocError, Global};
+use std::collections::BTreeSet;
 use std::io;
-
-const HEAR: usize = 0;
-
-const STOP: usize = 1;
-
-const DROP: usize = 2;
-
-const SHOW: usize = 3;
 
 // ---- what a line asks
 
-fn field(value: u64) -> u16 {
-    (value % 65536) as u16
-}
-
-// The termination after the word at this place: `hear 3.1 from 1.1` has the words hear, 3, 1, from, 1, 1.
-fn termination(w: Words, i: usize) -> Termination
-    requires { i < 200 }
-{
-    Termination {
-        port: field(console::word(w, i + 1)),
-        channel: field(console::word(w, i + 2)),
+// A port or a channel. A word that is no number is one by its letters, or by its sign.
+fn field(word: Option<&Word>) -> u16 {
+    match word {
+        None => 0,
+        Some(Word::Number(n)) => (n % 65536) as u16,
+        Some(Word::Symbol(c)) => u16::from(*c),
+        Some(Word::Quote) => u16::from(b'"'),
+        Some(Word::Equals) => u16::from(b'='),
+        Some(Word::Name(name)) => name.as_bytes().iter().fold(0u16, |n, c| {
+            n.wrapping_mul(32).wrapping_add(u16::from(c % 32))
+        }),
     }
 }
 
-fn operation(w: Words) -> usize {
-    console::number_of(b"hear stop drop show", console::word(w, 0))
+// The termination after the word at this place: `hear 3.1 from 1.1` has the words hear, 3, 1, from, 1, 1.
+fn termination(words: &[Word], i: usize) -> Termination
+    requires { i < 200 }
+{
+    Termination {
+        port: field(words.get(i + 1)),
+        channel: field(words.get(i + 2)),
+    }
 }
 
 // ---- drawing
 
-fn port(t: u64) -> u64 {
-    t / 65536 % 65536
+// A termination in the one number that the links have for it.
+fn in_words(alloc: Global, termination: u32) -> Result<String, AllocError> {
+    format!(in alloc; "{}.{}", termination >> 16, termination % 65536)
 }
 
-fn channel(t: u64) -> u64 {
-    t % 65536
+fn sink_of(link: u64) -> u32 {
+    (link >> 32) as u32
 }
 
-fn say_termination(rt: &impl Print, t: u64) -> io::Result<()> {
-    console::say_number(rt, port(t))?;
-    console::say_byte(rt, b'.')?;
-    console::say_number(rt, channel(t))
+fn source_of(link: u64) -> u32 {
+    (link % (1 << 32)) as u32
 }
 
-fn digits(n: u64) -> u64
-    ensures { result ≤ 5 }
+// The sinks of all links, or their sources: each once, the lowest first.
+fn ends<F: Fn(u64) -> u32>(
+    alloc: Global,
+    links: &[u64; 64],
+    end_of: F,
+) -> Result<BTreeSet<u32>, AllocError>
+    requires { F.IsAlwaysCallable end_of }
 {
-    if n < 10 {
-        return 1;
+    let mut ends = BTreeSet::new(alloc);
+    for link in links {
+        if *link != 0 {
+            ends.insert(end_of(*link))?;
+        }
     }
-    if n < 100 {
-        return 2;
-    }
-    if n < 1000 {
-        return 3;
-    }
-    if n < 10000 { 4 } else { 5 }
+    Ok(ends)
 }
 
-fn say_times(rt: &impl Print, c: u8, n: u64) -> io::Result<()> {
-    for i in 0u64..16u64 {
-        if i < n {
-            console::say_byte(rt, c)?;
+// A row for each sink, a column for each source.
+fn print_table(rt: &(impl Print + AllocGlobal), links: &[u64; 64]) -> io::Result<()> {
+    let alloc = rt.alloc();
+    let sources = ends(alloc, links, source_of)?;
+    print!(rt; "  hears        ")?;
+    for source in sources.iter() {
+        print!(rt; "{:>13}", in_words(alloc, *source)?)?;
+    }
+    println!(rt)?;
+    let sinks = ends(alloc, links, sink_of)?;
+    for sink in sinks.iter() {
+        print!(rt; "  {:<13}", in_words(alloc, *sink)?)?;
+        for source in sources.iter() {
+            let link = u64::from(*sink) << 32 | u64::from(*source);
+            let mark = if links.contains(&link) { 'x' } else { '.' };
+            print!(rt; "{mark:>13}")?;
         }
+        println!(rt)?;
     }
     Ok(())
-}
-
-// How many signs a termination leaves of a column.
-fn left(t: u64) -> u64 {
-    12 - digits(port(t)) - digits(channel(t))
-}
-
-// A termination, and this sign after it up to the column's end.
-fn say_column(rt: &impl Print, t: u64, c: u8) -> io::Result<()> {
-    say_termination(rt, t)?;
-    say_times(rt, c, left(t))
-}
-
-// The sink or the source of a link.
-fn end_of(l: u64, sink: bool) -> u64 {
-    if sink { l / 4294967296 } else { l % 4294967296 }
-}
-
-// The lowest sink (or source) from a number on; `NONE` where there is none.
-const NONE: u64 = 4294967296;
-
-fn lowest(m: [u64; 64], from: u64, sink: bool) -> u64 {
-    let mut best = NONE;
-    for i in 0usize..64usize {
-        let l = m[i];
-        let t = end_of(l, sink);
-        if l != 0 && from <= t && t < best {
-            best = t;
-        }
-    }
-    best
-}
-
-fn holds(m: [u64; 64], x: u64) -> bool {
-    for i in 0usize..64usize {
-        if m[i] == x {
-            return true;
-        }
-    }
-    false
-}
-
-// The sources of all links, a column for each; for the head of the table, and for the row of a sink.
-fn say_sources(rt: &impl Print, m: [u64; 64], head: bool, sink: u64) -> io::Result<()> {
-    let mut t = lowest(m, 0, false);
-    for _ in 0u32..64u32 {
-        if t < NONE {
-            if head {
-                say_times(rt, b' ', left(t))?;
-                say_termination(rt, t)?;
-            } else {
-                say_times(rt, b' ', 12)?;
-                console::say_byte(rt, mark(holds(m, sink % NONE * NONE + t)))?;
-            }
-            t = lowest(m, t + 1, false);
-        }
-    }
-    console::say_byte(rt, 10)
-}
-
-fn mark(held: bool) -> u8 {
-    if held { b'x' } else { b'.' }
-}
-
-fn say_table(rt: &impl Print, m: [u64; 64]) -> io::Result<()> {
-    console::say(rt, b"  hears        ")?;
-    say_sources(rt, m, true, 0)?;
-    let mut t = lowest(m, 0, true);
-    for _ in 0u32..64u32 {
-        if t < NONE {
-            console::say(rt, b"  ")?;
-            say_column(rt, t, b' ')?;
-            say_sources(rt, m, false, t)?;
-            t = lowest(m, t + 1, true);
-        }
-    }
-    Ok(())
-}
-
-fn wide(n: u32) -> u64 {
-    n as u64
 }
 
 // The sources of one sink, one under the other, and an arrow from all of them.
-fn say_arrows(rt: &impl Print, room: [u32; 64], count: usize, sink: u64) -> io::Result<()> {
-    for i in 0usize..64usize {
-        if i < count {
-            console::say(rt, b"  ")?;
-            say_column(rt, wide(room[i]), b'-')?;
-            if i + 1 < count {
-                console::say(rt, b"+\n")?;
-            } else {
-                console::say(rt, b"+--> ")?;
-                say_termination(rt, sink)?;
-                console::say_byte(rt, 10)?;
-            }
+fn print_arrows(rt: &(impl Print + AllocGlobal), sources: &[u32], sink: u32) -> io::Result<()> {
+    let alloc = rt.alloc();
+    for (i, source) in sources.iter().enumerate() {
+        print!(rt; "  {:-<13}+", in_words(alloc, *source)?)?;
+        if i + 1 < sources.len() {
+            println!(rt)?;
+        } else {
+            println!(rt; "--> {}", in_words(alloc, sink)?)?;
         }
     }
     Ok(())
 }
 
-fn say_sink(rt: &impl Print, m: [u64; 64], t: u64) -> io::Result<()> {
-    let sink = Termination {
-        port: field(port(t)),
-        channel: field(channel(t)),
-    };
-    let mut room = [0u32; 64];
-    let l = links::sources(&m, sink, &mut room);
-    match l {
-        Summed::Count(n) => say_arrows(rt, room, n, t),
-        Summed::Refused(r) => console::say_refused(rt, r),
-    }
-}
-
-fn say_picture(rt: &impl Print, m: [u64; 64]) -> io::Result<()> {
-    let mut t = lowest(m, 0, true);
-    for _ in 0u32..64u32 {
-        if t < NONE {
-            say_sink(rt, m, t)?;
-            t = lowest(m, t + 1, true);
+fn print_picture(rt: &(impl Print + AllocGlobal), links: &[u64; 64]) -> io::Result<()> {
+    let sinks = ends(rt.alloc(), links, sink_of)?;
+    for sink in sinks.iter() {
+        let termination = Termination {
+            port: (sink >> 16) as u16,
+            channel: (sink % 65536) as u16,
+        };
+        let mut room = [0; 64];
+        match links::sources(links, termination, &mut room) {
+            Ok(n) => print_arrows(rt, room.get(..n).unwrap_or(&room), *sink)?,
+            Err(r) => print!(rt; "{r}")?,
         }
     }
     Ok(())
 }
 
-fn show(rt: &impl Print, m: [u64; 64]) -> io::Result<()> {
-    console::say_byte(rt, 10)?;
-    if m[0] == 0 {
-        console::say(rt, b"  nobody hears anybody\n")?;
+fn show(rt: &(impl Print + AllocGlobal), links: &[u64; 64]) -> io::Result<()> {
+    println!(rt)?;
+    if links[0] == 0 {
+        println!(rt; "  nobody hears anybody")?;
     } else {
-        say_table(rt, m)?;
-        console::say_byte(rt, 10)?;
-        say_picture(rt, m)?;
+        print_table(rt, links)?;
+        println!(rt)?;
+        print_picture(rt, links)?;
     }
-    console::say_byte(rt, 10)
+    println!(rt)
 }
 
 // ---- all lines
 
-fn say_outcome(rt: &impl Print, o: Outcome) -> io::Result<()> {
-    console::say(rt, b" = ")?;
-    match o {
-        Outcome::Done => console::say(rt, b"done")?,
-        Outcome::Refused(r) => console::say_refused(rt, r)?,
+fn print_outcome(rt: &impl Print, outcome: Result<(), Refusal>) -> io::Result<()> {
+    match outcome {
+        Ok(()) => println!(rt; " = done"),
+        Err(r) => println!(rt; " = {r}"),
     }
-    console::say_byte(rt, 10)
 }
 
-// The box's links.
-#[derive(Clone, Copy)]
-struct Conference {
-    links: [u64; 64],
-}
-
-fn with_line(rt: &impl Print, c: Conference, text: &[u8]) -> io::Result<Conference> {
-    let mut m = c.links;
-    console::say(rt, text)?;
+fn one_line(rt: &(impl Print + AllocGlobal), links: &mut [u64; 64], text: &[u8]) -> io::Result<()> {
+    rt.write_all(text)?;
     if console::is_remark(text) {
-        console::say_byte(rt, 10)?;
-        return Ok(c);
+        return println!(rt);
     }
-    let w = console::words_of(text);
-    let sink = termination(w, 0);
-    let source = termination(w, 3);
-    match operation(w) {
-        HEAR => say_outcome(rt, links::add(&mut m, sink, source))?,
-        STOP => say_outcome(rt, links::remove(&mut m, sink, source))?,
-        DROP => say_outcome(rt, links::drop(&mut m, sink.port))?,
-        SHOW => show(rt, m)?,
-        _ => console::say_byte(rt, 10)?,
+    let small = console::in_small_letters(rt.alloc(), text)?;
+    let words = console::words_of(rt.alloc(), &small)?;
+    let sink = termination(&words, 0);
+    let source = termination(&words, 3);
+    match words.first() {
+        Some(Word::Name(name)) => match name.as_bytes() {
+            b"hear" => print_outcome(rt, links::add(links, sink, source)),
+            b"stop" => print_outcome(rt, links::remove(links, sink, source)),
+            b"drop" => print_outcome(rt, links::drop(links, sink.port)),
+            b"show" => show(rt, links),
+            _ => println!(rt),
+        },
+        _ => println!(rt),
     }
-    Ok(Conference { links: m })
-}
-
-// The bound is more than any script has: a loop must end.
-fn all_lines(rt: &(impl Input + Print)) -> io::Result<()> {
-    let mut input = rt.reader();
-    let mut c = Conference { links: [0u64; 64] };
-    let mut line = [0u8; 200];
-    for _ in 0u32..100_000u32 {
-        let read = console::read_line(&mut input, &mut line)?;
-        if read.ended {
-            return Ok(());
-        }
-        let n = read.len;
-        c = with_line(rt, c, &line[..n])?;
-    }
-    Ok(())
 }
 
 fn main(rt: HostRuntime) -> io::Result<()> {
-    all_lines(&rt)
+    let mut links = [0; 64];
+    console::for_each_line(&mut rt.reader(), &mut [0; 200], |text| {
+        one_line(&rt, &mut links, text)
+    })
 }

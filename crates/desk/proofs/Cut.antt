@@ -1,4 +1,5 @@
 -- Of a line the first 43 bytes decide what the desk answers: 9 digits, a space and 33 symbols, which are too many. So a program that reads no more than these answers as if it had read the whole line. Assumes nothing.
+use Rattle.std.specs.Prelude.{Err, Result}
 use Prim.Native.Nat.{ℕ, ◌+◌, ◌≤◌, ◌<◌}
 use mathlib.Core.Path.{◌≡◌, refl, sym, ap, ◌∙◌}
 use mathlib.Core.Bool.{Bool, true, false, not, ◌&&◌, cond}
@@ -11,6 +12,7 @@ use lib.Seq.{take_all, take-take, get_or-take, length-take-le}
 use borrow.Author.Tests.{lt-ltb, lt-leb, leb-true, ltb-true, ltb-false}
 use Rattle.typeset.proofs.Bools.{yes_or_no, fails, and_left, and_right}
 use Rattle.typeset.proofs.Below.{least-has, least-min, least-at-most, least-found}
+use Rattle.refusal.specs.declared.Refusal.{Refusal}
 use Rattle.refusal.specs.declared.Refusal.TheVariants.{RuleBroken, NoSuchType, NotForThisBox, WrongAddress, BadString}
 use Rattle.plan.specs.declared.Plan.{Plan}
 use Rattle.plan.specs.Sound.{sound}
@@ -19,9 +21,8 @@ use Rattle.setup.specs.Dialling.{legal_string}
 use Rattle.embedded.specs.Embedded.{all_digits, writes_address, number_from}
 use Rattle.making.specs.declared.Maker.{Maker}
 use Rattle.making.specs.declared.Maker.TheVariants.{Line}
-use Rattle.making.specs.declared.Answer.{Answer}
-use Rattle.making.specs.declared.Outcome.TheVariants.{Refused}
-use Rattle.making.specs.Making.{box_address, type_exists, makes_new, address_held, unless, new_setup, new_outcome_by, answered, new_answer}
+use Rattle.refusal.specs.Numbers.{unless}
+use Rattle.making.specs.Making.{box_address, type_exists, makes_new, address_held, new_setup, new_outcome_by, answered, new_answer}
 use Rattle.journey.specs.Desk.{space_in, address_text, string_text, readable, refused_text, told, desk_text}
 use Rattle.journey.proofs.Desks.{space-within}
 
@@ -31,9 +32,8 @@ unfolding legal_string
 too_long s h = rw (lt-leb (length s) 32 h)
 
 by_tests : (a b c d : Bool) (s z : Setup)
-    → answered (unless a (RuleBroken 0) (unless b NoSuchType (unless c NotForThisBox (unless d WrongAddress (Refused BadString))))) s
-    ≡ answered (unless a (RuleBroken 0) (unless b NoSuchType (unless c NotForThisBox (unless d WrongAddress (Refused BadString))))) z
-unfolding answered
+    → answered (unless a (RuleBroken 0) (unless b NoSuchType (unless c NotForThisBox (unless d WrongAddress (Err BadString))))) s
+    ≡ answered (unless a (RuleBroken 0) (unless b NoSuchType (unless c NotForThisBox (unless d WrongAddress (Err BadString))))) z
 by_tests true true true true s z = refl
 by_tests true true true false s z = refl
 by_tests true true false d s z = refl
@@ -94,7 +94,7 @@ module _ (p : Plan) (l : List ℕ) (n : ℕ) (enough : 43 ≤ n) (longer : n < l
     unfolding desk_text
     near_same =
         rw (readable-same, address_same)
-        (ap (λ (a : Answer). cond (readable l) (told p a) (refused_text 3)) (refused-alike p (Line (number_from 0 (address_text l))) (string_text cut) (string_text l) cut-too-long line-too-long))
+        (ap (λ (a : Result Setup Refusal). cond (readable l) (told p a) (refused_text 3)) (refused-alike p (Line (number_from 0 (address_text l))) (string_text cut) (string_text l) cut-too-long line-too-long))
 
   -- no space among the first ten bytes: there is none in the cut either
   far-cut : 9 < space_in l → 9 < space_in cut

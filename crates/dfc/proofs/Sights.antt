@@ -1,42 +1,48 @@
--- What was seen of a file is its reading's answer, and what its plan shows. Assumes nothing.
-use mathlib.Core.Path.{◌≡◌, refl, sym, ap, ◌∙◌}
-use mathlib.Core.List.{List}
-use Prim.Native.Nat.{ℕ}
-use Rattle.plan.specs.declared.Verdict.{Verdict}
-use Rattle.plan.specs.declared.Verdict.TheVariants.{Sound, Refused}
+-- What was seen of a file is what its plan shows, and the plan is sound. Assumes nothing.
+use Rattle.std.specs.Prelude.{List, ℕ, Result, Ok, Err, IfOk, ◌≡◌, true}
+use Rattle.std.proofs.lemmas.Result.{IfOk-at_ok, IfErr-at_err}
+use Rattle.std.proofs.Common.{refl, sym, ◌∙◌}
+use Rattle.plan.specs.declared.Plan.{Plan}
+use Rattle.plan.specs.declared.Seen.{Seen}
 use Rattle.plan.specs.Find.{seen}
-use Rattle.planread.specs.declared.Sight.{Sight}
+use Rattle.plan.specs.Sound.{sound}
 use Rattle.planread.specs.Reading.{read_of}
 use Rattle.planread.specs.Scanning.{scanned}
-use Rattle.planwrite.specs.declared.Written.{Written}
-use Rattle.planwrite.specs.Writing.{written, room_after}
-use Rattle.planback.specs.Back.{unless_refused, unless_kept, rewrites, room_rewritten as roomAgain}
+use Rattle.planread.specs.Scanning.{judged}
+use Rattle.planwrite.specs.Writing.{room_after}
+use Rattle.planback.specs.Back.{room_rewritten as roomAgain}
+use Rattle.answers.specs.declared.Answer.{Answer}
 use Rattle.dfc.specs.Said.{answer_over, lent_over}
-use Rattle.dfc.specs.Files.{written_said, rewritten, room_rewritten}
+use Rattle.refusal.specs.declared.Refusal.{Refusal}
 
-module _ (file : List ℕ) (first second : ℕ) {z : Sight} (q : z ≡ scanned first second (read_of file)) where
-  pub sight-answer : {a : Verdict} → z.answer ≡ a → (read_of file).answer ≡ a
-  unfolding scanned
-  sight-answer e = ap (λ (w : Sight). w.answer) (sym q) ∙ e
+-- the plan of a file that was accepted, and what is seen of it
+pub record Shown (file : List ℕ) (first second : ℕ) (v : Seen) : Type 0 where
+  pub plan : Plan
+  pub is : read_of file ≡ Ok plan
+  pub shows : seen plan first second ≡ v
+  pub kept : sound plan ≡ true
 
-  pub sight-seen : seen (read_of file).plan first second ≡ z.seen
-  unfolding scanned
-  sight-seen = ap (λ (w : Sight). w.seen) (sym q)
+pub shown : {file : List ℕ} {first second : ℕ} {z : Result Seen Refusal} (v : Seen) → z ≡ scanned first second (read_of file) → IfOk (read_of file) (λ p. sound p ≡ true) → z ≡ Ok v → Shown file first second v
+unfolding scanned
+shown {file} {first} {second} {z} v q kept e = by (read_of file) refl (sym q ∙ e) kept
+  where
+    by : (r : Result Plan Refusal) → read_of file ≡ r → scanned first second r ≡ Ok v → IfOk r (λ p. sound p ≡ true) → Shown file first second v
+    by (Ok p) is w k = record { plan = p; is = is; shows = IfOk-at_ok (λ s. seen p first second ≡ s) w refl; kept = k }
+    by (Err x) is w k = absurd (IfOk-at_ok (λ y. ⊥) w tt)
 
--- a file written again: the reader's refusal, or what the writer says
+pub not_shown : (file : List ℕ) (first second : ℕ) {z : Result Seen Refusal} (x : Refusal) → z ≡ scanned first second (read_of file) → z ≡ Err x → read_of file ≡ Err x
+unfolding scanned
+not_shown file first second {z} x q e = by (read_of file) (sym q ∙ e)
+  where
+    by : (r : Result Plan Refusal) → scanned first second r ≡ Err x → r ≡ Err x
+    by (Ok p) w = absurd (IfErr-at_err (λ y. ⊥) w tt)
+    by (Err y) w = IfErr-at_err (λ z. ◌≡◌ {A = Result Plan Refusal} (Err y) (Err z)) w refl
 
-said-over : (v : Verdict) (w : Written) → written_said (unless_refused v w) ≡ answer_over v (written_said w)
-said-over Sound w = refl
-said-over (Refused r) w = refl
+-- a verdict tells of the file what reading it tells, and a file written again leaves the room as the writer does
+pub judged-told : (r : Result Plan Refusal) (a : Answer) → answer_over (judged r) (λ k. a) ≡ answer_over r (λ p. a)
+judged-told (Ok p) a = refl
+judged-told (Err x) a = refl
 
-kept-over : (v : Verdict) (after room : List ℕ) → unless_kept v after room ≡ lent_over v after room
-kept-over Sound after room = refl
-kept-over (Refused r) after room = refl
-
-pub written_over : (file room : List ℕ) → written_said (rewrites (read_of file) room) ≡ rewritten file room
-unfolding rewrites rewritten
-written_over file room = said-over (read_of file).answer (written (read_of file).plan room)
-
-pub room-over : (file room : List ℕ) → roomAgain (read_of file) room ≡ room_rewritten file room
-unfolding roomAgain room_rewritten
-room-over file room = kept-over (read_of file).answer (room_after (read_of file).plan room) room
+pub room-over : (r : Result Plan Refusal) (room : List ℕ) → roomAgain r room ≡ lent_over r (λ p. room_after p room) room
+room-over (Ok p) room = refl
+room-over (Err x) room = refl

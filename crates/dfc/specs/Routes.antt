@@ -1,17 +1,13 @@
 -- What routing over a plan file answers, and what it leaves in lent memory. Assumes nothing.
-use Rattle.std.specs.Prelude.{ℕ, List}
+use Rattle.std.specs.Prelude.{ℕ, List, Result, Ok, Err}
 use Rattle.refusal.specs.declared.Refusal.{Refusal}
-use Rattle.refusal.specs.Numbers.{number_of, place_of}
-use Rattle.plan.specs.declared.Verdict.{Verdict}
-use Rattle.plan.specs.declared.Verdict.TheVariants.{Sound, Refused}
+use Rattle.refusal.specs.Numbers.{◌>>=◌, number_of, place_of}
 use Rattle.setup.specs.declared.Setup.{Setup}
 use Rattle.planread.specs.Reading.{read_of}
-use Rattle.setupbytes.specs.Codec.{setup_bytes, setup_in}
+use Rattle.setupbytes.specs.Codec.{setup_bytes}
 use Rattle.routing.specs.declared.Callee.{Callee}
 use Rattle.routing.specs.declared.Callee.TheVariants.{Feature, Line, Trunk, Resource, Error}
-use Rattle.routing.specs.declared.Later.TheVariants.{Nothing}
-use Rattle.routing.specs.declared.Outcome.{Outcome}
-use Rattle.routing.specs.declared.Outcome.TheVariants.{Routed as To, Refused as NotRouted}
+use Rattle.routing.specs.declared.Routed.{Routed as Route}
 use Rattle.routing.specs.Routing.{answer, outcome, source_list_after, target_list_after}
 use Rattle.dfc.specs.declared.Routed.{Routed}
 use Rattle.answers.specs.Said.{place_number}
@@ -47,33 +43,20 @@ routed_to c left = record { number = 0; value = left; kind = box_kind c; box_num
 abbrev pub not_routed : Refusal → Routed
 not_routed r = record { number = number_of r; value = place_number (place_of r); kind = 0; box_number = 0; address = 0 }
 
-abbrev pub routed_said : Outcome → ℕ → Routed
-routed_said (To c) left = routed_to c left
-routed_said (NotRouted r) left = not_routed r
+abbrev pub routed_said : Result Route Refusal → Routed
+routed_said (Ok a) = routed_to a.callee a.left
+routed_said (Err r) = not_routed r
 
 -- the setup that the box receives, in the room that was lent; a refusal leaves the room as it was
-abbrev pub routed_room : Outcome → Setup → List ℕ → List ℕ
-routed_room (To c) s room = setup_bytes s
-routed_room (NotRouted r) s room = room
+abbrev pub routed_room : Result Route Refusal → List ℕ → List ℕ
+routed_room a room = lent_over a (λ r. setup_bytes r.setup) room
 
-abbrev pub routed_over : Verdict → Routed → Routed
-routed_over Sound a = a
-routed_over (Refused r) a = not_routed r
+-- a setup routed over a file, where the two lists have room for n and m types: the file's refusal comes first
+unfoldable pub route_over : List ℕ → Setup → ℕ → ℕ → Result Route Refusal
+route_over file s n m = read_of file >>= λ p. answer p s (Ok tt) n m
 
--- a file, a setup's bytes, and how much room the two lists have
-unfoldable pub routed : List ℕ → List ℕ → ℕ → ℕ → Routed
-routed file s n m =
-    routed_over (read_of file).answer
-    (routed_said (answer (read_of file).plan (setup_in s) Nothing n m).outcome (answer (read_of file).plan (setup_in s) Nothing n m).left)
+unfoldable pub source_routed : List ℕ → Setup → ℕ → ℕ → List ℕ → List ℕ
+source_routed file s n m l = lent_over (read_of file) (λ p. source_list_after p s (outcome p s (Ok tt) n m) l) l
 
-unfoldable pub room_routed : List ℕ → List ℕ → ℕ → ℕ → List ℕ → List ℕ
-room_routed file s n m room =
-    lent_over (read_of file).answer
-    (routed_room (answer (read_of file).plan (setup_in s) Nothing n m).outcome (answer (read_of file).plan (setup_in s) Nothing n m).setup room)
-    room
-
-unfoldable pub source_routed : List ℕ → List ℕ → ℕ → ℕ → List ℕ → List ℕ
-source_routed file s n m l = lent_over (read_of file).answer (source_list_after (read_of file).plan (setup_in s) (outcome (read_of file).plan (setup_in s) Nothing n m) l) l
-
-unfoldable pub target_routed : List ℕ → List ℕ → ℕ → ℕ → List ℕ → List ℕ
-target_routed file s n m l = lent_over (read_of file).answer (target_list_after (read_of file).plan (setup_in s) (outcome (read_of file).plan (setup_in s) Nothing n m) l) l
+unfoldable pub target_routed : List ℕ → Setup → ℕ → ℕ → List ℕ → List ℕ
+target_routed file s n m l = lent_over (read_of file) (λ p. target_list_after p s (outcome p s (Ok tt) n m) l) l

@@ -2,23 +2,19 @@
 #![tactic(auto)]
 
 ghost use Rattle.std.specs.Prelude.{◌≡◌, ℕ, ◌≤◌, ◌<◌, length};
-ghost use Rattle.plan.specs.declared.Plan.{Plan};
-ghost use Rattle.plan.specs.Find.{seen};
-ghost use Rattle.zone.specs.Order.{held};
-ghost use Rattle.zone.specs.Answer.{zone_at};
-ghost use Rattle.setupbytes.specs.Codec.{setup_bytes};
 ghost use Rattle.dfc.specs.Said.{region_of, maker_of};
-ghost use Rattle.dfc.specs.Files.{checked, written_said, rewritten, room_rewritten, zoned, types_zoned, made_said, made_room, making, room_making, new_over, continued_over, reversed_over};
-ghost use Rattle.dfc.specs.Routes.{box_kind, box_number, box_address, routed_to, not_routed, routed_said, routed_room, routed, room_routed, source_routed, target_routed};
+ghost use Rattle.setupbytes.specs.Codec.{setup_in};
+ghost use Rattle.dfc.specs.Files.{checked, written_said, rewritten, room_rewritten, zoned, types_zoned, made_said, made_room, new_over, continued_over, reversed_over};
+ghost use Rattle.dfc.specs.Routes.{box_kind, box_number, box_address, routed_to, not_routed, routed_said, routed_room, route_over, source_routed, target_routed};
 
 use answers::Answer;
-use making::{Maker, Outcome};
-use plan::{Region, Seen, Verdict};
-use planwrite::Written;
+use making::Maker;
+use plan::Region;
 use refusal::Refusal;
-use routing::{Callee, Later};
-use zone::Zone;
+use routing::Callee;
+use setup::Setup;
 
+// (Each archive has this: they rest on no common crate for C's numbers.)
 fn region_of(n: u8) -> Region
     ensures { result ≡ region_of n }
 {
@@ -32,19 +28,13 @@ fn region_of(n: u8) -> Region
 fn maker_of(kind: u8, of_type: u8, address: u32) -> Maker
     ensures { result ≡ maker_of kind of_type address }
 {
-    if kind == 0 {
-        return Maker::Feature(of_type, address);
+    match kind {
+        0 => Maker::Feature(of_type, address),
+        1 => Maker::Line(address),
+        2 => Maker::Trunk(address),
+        3 => Maker::Resource,
+        _ => Maker::Error,
     }
-    if kind == 1 {
-        return Maker::Line(address);
-    }
-    if kind == 2 {
-        return Maker::Trunk(address);
-    }
-    if kind == 3 {
-        return Maker::Resource;
-    }
-    Maker::Error
 }
 
 // ---- the plan file
@@ -54,20 +44,16 @@ fn maker_of(kind: u8, of_type: u8, address: u32) -> Maker
 pub extern "C" fn dfc_check(file: &[u8]) -> Answer
     ensures { result ≡ checked file.now }
 {
-    let answer = planread::verdict(file);
-    match answer {
-        Verdict::Sound => answers::accepted(0),
-        Verdict::Refused(r) => answers::refused(r),
+    match planread::verdict(file) {
+        Ok(()) => answers::accepted(0),
+        Err(r) => answers::refused(r),
     }
 }
 
-fn written_said(w: Written) -> Answer
+fn written_said(w: Result<usize, Refusal>) -> Answer
     ensures { result ≡ written_said w }
 {
-    match w {
-        Written::Bytes(n) => answers::accepted(n as u64),
-        Written::Refused(r) => answers::refused(r),
-    }
+    answers::answered(w.map(|n| n as u64))
 }
 
 // The plan of a file, written again into the room.
@@ -80,58 +66,42 @@ pub extern "C" fn dfc_write(file: &[u8], room: &mut [u8]) -> Answer
 
 // ---- zones
 
-fn types_of(zone: Zone) -> [u8; 32]
-    ensures { result ≡ zone.types }
-{
-    zone.types
-}
-
-// The zone of the address that is shown first.
-fn zone_shown(region: Region, v: Seen) -> Zone
-    ensures { (p : Plan) (first second : ℕ) → seen p first second ≡ v → result ≡ held (zone_at p region first) }
-{
-    let source_order = v.source_order;
-    let target_order = v.target_order;
-    let holder = v.first;
-    match region {
-        Region::Source => zone::zone_of(source_order, holder.source),
-        Region::Target => zone::zone_of(target_order, holder.target),
-    }
-}
-
 // The zone of an address in a region, into 32 places, and how many types it has.
 #[unsafe(no_mangle)]
 pub extern "C" fn dfc_zone(file: &[u8], region: u8, address: u32, types: &mut [u8; 32]) -> Answer
     ensures { (result ≡ zoned file.now region address) × (types.new ≡ types_zoned file.now region address types.old) }
 {
-    let sight = planback::scan(file, address, 0);
-    let verdict = sight.answer;
-    let v = sight.seen;
-    match verdict {
-        Verdict::Sound => {
-            let zone = zone_shown(region_of(region), v);
-            *types = types_of(zone);
-            answers::accepted(zone.len as u64)
+    match planback::scan(file, address, 0) {
+        Ok(v) => {
+            let zone = zone::zone_shown(region_of(region), v, v.first);
+            let all = zone.types;
+            *types = all;
+            answers::accepted(zone.len.into())
         }
-        Verdict::Refused(r) => answers::refused(r),
+        Err(r) => answers::refused(r),
     }
 }
 
 // ---- making setups
 
 // A setup's bytes into the room, where one was made.
-fn handed(m: making::Answer, room: &mut [u8; 110]) -> Answer
-    ensures { (result ≡ made_said m.outcome) × (room.new ≡ made_room m.outcome m.setup room.old) }
+fn handed(made: Result<Setup, Refusal>, room: &mut [u8; 110]) -> Answer
+    ensures { (result ≡ made_said made) × (room.new ≡ made_room made room.old) }
 {
-    let outcome = m.outcome;
-    let setup = m.setup;
-    match outcome {
-        Outcome::Made => {
+    match made {
+        Ok(setup) => {
             *room = setupbytes::setup_bytes(setup);
             answers::accepted(110)
         }
-        Outcome::Refused(r) => answers::refused(r),
+        Err(r) => answers::refused(r),
     }
+}
+
+fn new_over(file: &[u8], maker: Maker, string: &[u8], target: u32) -> Result<Setup, Refusal>
+    ensures { result ≡ new_over file.now maker string.now target }
+{
+    let v = planback::scan(file, making::box_address(maker), 0)?;
+    making::new_seen(true, v, maker, string, target)
 }
 
 // A new setup.
@@ -145,20 +115,25 @@ pub extern "C" fn dfc_new(
     target: u32,
     room: &mut [u8; 110],
 ) -> Answer
-    ensures { (result ≡ making file.now (new_over file.now (maker_of kind of_type address) string.now target))
-        × (room.new ≡ room_making file.now (new_over file.now (maker_of kind of_type address) string.now target) room.old) }
+    ensures { (result ≡ made_said (new_over file.now (maker_of kind of_type address) string.now target))
+        × (room.new ≡ made_room (new_over file.now (maker_of kind of_type address) string.now target) room.old) }
 {
     let maker = maker_of(kind, of_type, address);
-    let sight = planback::scan(file, making::box_address(maker), 0);
-    let verdict = sight.answer;
-    let v = sight.seen;
-    match verdict {
-        Verdict::Sound => {
-            let m = making::new_seen(true, v, maker, string, target);
-            handed(m, room)
-        }
-        Verdict::Refused(r) => answers::refused(r),
-    }
+    handed(new_over(file, maker, string, target), room)
+}
+
+fn continued_over(
+    file: &[u8],
+    maker: Maker,
+    s: Setup,
+    source: u32,
+    string: &[u8],
+    target: u32,
+) -> Result<Setup, Refusal>
+    ensures { result ≡ continued_over file.now maker s source string.now target }
+{
+    let v = planback::scan(file, making::box_address(maker), setup::routing_address(s))?;
+    making::continued_seen(true, v, maker, s, source, string, target)
 }
 
 // A setup continued.
@@ -174,22 +149,26 @@ pub extern "C" fn dfc_continued(
     target: u32,
     room: &mut [u8; 110],
 ) -> Answer
-    ensures { (result ≡ making file.now (continued_over file.now (maker_of kind of_type address) setup.now source string.now target))
-        × (room.new ≡ room_making file.now (continued_over file.now (maker_of kind of_type address) setup.now source string.now target) room.old) }
+    ensures { (result ≡ made_said (continued_over file.now (maker_of kind of_type address) (setup_in setup.now) source string.now target))
+        × (room.new ≡ made_room (continued_over file.now (maker_of kind of_type address) (setup_in setup.now) source string.now target) room.old) }
 {
     let s = setupbytes::setup_in(setup);
     let maker = maker_of(kind, of_type, address);
-    let at = making::box_address(maker);
-    let sight = planback::scan(file, at, setup::routing_address(s));
-    let verdict = sight.answer;
-    let v = sight.seen;
-    match verdict {
-        Verdict::Sound => {
-            let m = making::continued_seen(true, v, maker, s, source, string, target);
-            handed(m, room)
-        }
-        Verdict::Refused(r) => answers::refused(r),
-    }
+    handed(continued_over(file, maker, s, source, string, target), room)
+}
+
+fn reversed_over(
+    file: &[u8],
+    maker: Maker,
+    s: Setup,
+    source: u32,
+    string: &[u8],
+    target: u32,
+) -> Result<Setup, Refusal>
+    ensures { result ≡ reversed_over file.now maker s source string.now target }
+{
+    let v = planback::scan(file, making::box_address(maker), setup::routing_address(s))?;
+    making::reversed_seen(true, v, maker, s, source, string, target)
 }
 
 // A setup reversed.
@@ -205,22 +184,12 @@ pub extern "C" fn dfc_reversed(
     target: u32,
     room: &mut [u8; 110],
 ) -> Answer
-    ensures { (result ≡ making file.now (reversed_over file.now (maker_of kind of_type address) setup.now source string.now target))
-        × (room.new ≡ room_making file.now (reversed_over file.now (maker_of kind of_type address) setup.now source string.now target) room.old) }
+    ensures { (result ≡ made_said (reversed_over file.now (maker_of kind of_type address) (setup_in setup.now) source string.now target))
+        × (room.new ≡ made_room (reversed_over file.now (maker_of kind of_type address) (setup_in setup.now) source string.now target) room.old) }
 {
     let s = setupbytes::setup_in(setup);
     let maker = maker_of(kind, of_type, address);
-    let at = making::box_address(maker);
-    let sight = planback::scan(file, at, setup::routing_address(s));
-    let verdict = sight.answer;
-    let v = sight.seen;
-    match verdict {
-        Verdict::Sound => {
-            let m = making::reversed_seen(true, v, maker, s, source, string, target);
-            handed(m, room)
-        }
-        Verdict::Refused(r) => answers::refused(r),
-    }
+    handed(reversed_over(file, maker, s, source, string, target), room)
 }
 
 // ---- routing
@@ -248,32 +217,13 @@ fn box_kind(c: Callee) -> u64
     }
 }
 
-fn wide_8(n: u8) -> u64
-    ensures { result ≡ n }
-{
-    n as u64
-}
-
-fn wide_16(n: u16) -> u64
-    ensures { result ≡ n }
-{
-    n as u64
-}
-
-fn wide_32(n: u32) -> u64
-    ensures { result ≡ n }
-{
-    n as u64
-}
-
+// (As C has it; the journey's numbers are for its text.)
 fn box_number(c: Callee) -> u64
     ensures { result ≡ box_number c }
 {
     match c {
-        Callee::Feature(t, _) => wide_8(t),
-        Callee::Line(n, _) => wide_16(n),
-        Callee::Trunk(n, _) => wide_16(n),
-        Callee::Resource(n, _) => wide_16(n),
+        Callee::Feature(t, _) => t.into(),
+        Callee::Line(n, _) | Callee::Trunk(n, _) | Callee::Resource(n, _) => n.into(),
         Callee::Error(_) => 0,
     }
 }
@@ -282,11 +232,11 @@ fn box_address(c: Callee) -> u64
     ensures { result ≡ box_address c }
 {
     match c {
-        Callee::Feature(_, a) => wide_32(a),
-        Callee::Line(_, a) => wide_32(a),
-        Callee::Trunk(_, a) => wide_32(a),
-        Callee::Resource(_, a) => wide_32(a),
-        Callee::Error(a) => wide_32(a),
+        Callee::Feature(_, a)
+        | Callee::Line(_, a)
+        | Callee::Trunk(_, a)
+        | Callee::Resource(_, a)
+        | Callee::Error(a) => a.into(),
     }
 }
 
@@ -295,7 +245,7 @@ fn routed_to(c: Callee, left: u8) -> Routed
 {
     Routed {
         number: 0,
-        value: wide_8(left),
+        value: left.into(),
         kind: box_kind(c),
         box_number: box_number(c),
         address: box_address(c),
@@ -306,7 +256,7 @@ fn not_routed(r: Refusal) -> Routed
     ensures { result ≡ not_routed r }
 {
     Routed {
-        number: r.number() as u64,
+        number: r.number().into(),
         value: answers::place_number(r.place()),
         kind: 0,
         box_number: 0,
@@ -315,18 +265,30 @@ fn not_routed(r: Refusal) -> Routed
 }
 
 // What routing gave: the setup received into the room, where the setup was routed.
-fn received(a: routing::Answer, room: &mut [u8; 110]) -> Routed
-    ensures { (result ≡ routed_said a.outcome a.left) × (room.new ≡ routed_room a.outcome a.setup room.old) }
+fn received(answer: Result<routing::Routed, Refusal>, room: &mut [u8; 110]) -> Routed
+    ensures { (result ≡ routed_said answer) × (room.new ≡ routed_room answer room.old) }
 {
-    let outcome = a.outcome;
-    let setup = a.setup;
-    match outcome {
-        routing::Outcome::Routed(c) => {
-            *room = setupbytes::setup_bytes(setup);
-            routed_to(c, a.left)
+    match answer {
+        Ok(a) => {
+            *room = setupbytes::setup_bytes(a.setup);
+            routed_to(a.callee, a.left)
         }
-        routing::Outcome::Refused(r) => not_routed(r),
+        Err(r) => not_routed(r),
     }
+}
+
+fn route_over(
+    file: &[u8],
+    out: Setup,
+    source_list: &mut [u8],
+    target_list: &mut [u8],
+) -> Result<routing::Routed, Refusal>
+    ensures { (result ≡ route_over file.now out (length source_list.old) (length target_list.old))
+        × (source_list.new ≡ source_routed file.now out (length source_list.old) (length target_list.old) source_list.old)
+        × (target_list.new ≡ target_routed file.now out (length source_list.old) (length target_list.old) target_list.old) }
+{
+    let v = planback::scan(file, out.source, routing::extracted(out))?;
+    routing::route_seen(true, v, out, Ok(()), source_list, target_list)
 }
 
 // A setup routed: the callee box, and the setup that it receives, in the room; the two zones in the two lists.
@@ -338,22 +300,13 @@ pub extern "C" fn dfc_route(
     target_list: &mut [u8],
     room: &mut [u8; 110],
 ) -> Routed
-    ensures { (result ≡ routed file.now setup.now (length source_list.old) (length target_list.old))
-        × (source_list.new ≡ source_routed file.now setup.now (length source_list.old) (length target_list.old) source_list.old)
-        × (target_list.new ≡ target_routed file.now setup.now (length source_list.old) (length target_list.old) target_list.old)
-        × (room.new ≡ room_routed file.now setup.now (length source_list.old) (length target_list.old) room.old) }
+    ensures { (result ≡ routed_said (route_over file.now (setup_in setup.now) (length source_list.old) (length target_list.old)))
+        × (source_list.new ≡ source_routed file.now (setup_in setup.now) (length source_list.old) (length target_list.old) source_list.old)
+        × (target_list.new ≡ target_routed file.now (setup_in setup.now) (length source_list.old) (length target_list.old) target_list.old)
+        × (room.new ≡ routed_room (route_over file.now (setup_in setup.now) (length source_list.old) (length target_list.old)) room.old) }
 {
     let out = setupbytes::setup_in(setup);
-    let sight = planback::scan(file, out.source, routing::extracted(out));
-    let verdict = sight.answer;
-    let v = sight.seen;
-    match verdict {
-        Verdict::Sound => {
-            let a = routing::route_seen(true, v, out, Later::Nothing, source_list, target_list);
-            received(a, room)
-        }
-        Verdict::Refused(r) => not_routed(r),
-    }
+    received(route_over(file, out, source_list, target_list), room)
 }
 
 // ---- calls
@@ -364,7 +317,7 @@ ghost use Rattle.recordbytes.specs.Records.{call_at};
 ghost use Rattle.recordbytes.specs.Steps.{step_at};
 ghost use Rattle.recordbytes.specs.Numbers.{command_of, commanded_said, reply_said};
 ghost use Rattle.rowbytes.specs.Rows.{row_in, cleared_in, commanded_in};
-ghost use Rattle.dfc.specs.Calls.{placed_as, placed, row_placed, port_placed, source_placed, target_placed, room_placed};
+ghost use Rattle.dfc.specs.Calls.{placed_as, placed_said, placed_room, place_over, row_placed, port_placed, source_placed, target_placed};
 
 use recordbytes::Commanded;
 
@@ -432,12 +385,6 @@ pub extern "C" fn dfc_port_command(
     rowbytes::port_command(port, kind, side, signal, tunnel, code)
 }
 
-fn wide_size(n: usize) -> u64
-    ensures { result ≡ n }
-{
-    n as u64
-}
-
 fn placed_as(q: Routed, record_number: usize, use_number: u16) -> Placed
     ensures { result ≡ placed_as q record_number use_number }
 {
@@ -447,9 +394,39 @@ fn placed_as(q: Routed, record_number: usize, use_number: u16) -> Placed
         kind: q.kind,
         box_number: q.box_number,
         address: q.address,
-        record_number: wide_size(record_number),
-        use_number: wide_16(use_number),
+        record_number: record_number as u64,
+        use_number: use_number.into(),
     }
+}
+
+// What placing gave: the setup received into the room, where the call was placed.
+fn settled(placed: Result<placing::Placed, Refusal>, room: &mut [u8; 110]) -> Placed
+    ensures { (result ≡ placed_said placed) × (room.new ≡ placed_room placed room.old) }
+{
+    match placed {
+        Ok(z) => {
+            let a = z.routed;
+            *room = setupbytes::setup_bytes(a.setup);
+            placed_as(routed_to(a.callee, a.left), z.record_number, z.use_number)
+        }
+        Err(r) => placed_as(not_routed(r), 0, 0),
+    }
+}
+
+fn place_over(
+    file: &[u8],
+    out: Setup,
+    row: &mut [u8],
+    source_list: &mut [u8],
+    target_list: &mut [u8],
+) -> Result<placing::Placed, Refusal>
+    ensures { (result ≡ place_over file.now out (row_in row.old) (length source_list.old) (length target_list.old))
+        × (row.new ≡ row_placed file.now out row.old (length source_list.old) (length target_list.old))
+        × (source_list.new ≡ source_placed file.now out (row_in row.old) (length source_list.old) (length target_list.old) source_list.old)
+        × (target_list.new ≡ target_placed file.now out (row_in row.old) (length source_list.old) (length target_list.old) target_list.old) }
+{
+    let v = planback::scan(file, out.source, routing::extracted(out))?;
+    rowbytes::place(true, row, v, out, source_list, target_list)
 }
 
 // A call placed in the lowest free record of a row: what routing gives, record and use number; the setup received in the room, and the two zones in the two lists.
@@ -462,28 +439,14 @@ pub extern "C" fn dfc_place(
     target_list: &mut [u8],
     room: &mut [u8; 110],
 ) -> Placed
-    ensures { (result ≡ placed file.now setup.now (row_in row.old) (length source_list.old) (length target_list.old))
-        × (row.new ≡ row_placed file.now setup.now row.old (length source_list.old) (length target_list.old))
-        × (source_list.new ≡ source_placed file.now setup.now (row_in row.old) (length source_list.old) (length target_list.old) source_list.old)
-        × (target_list.new ≡ target_placed file.now setup.now (row_in row.old) (length source_list.old) (length target_list.old) target_list.old)
-        × (room.new ≡ room_placed file.now setup.now (row_in row.old) (length source_list.old) (length target_list.old) room.old) }
+    ensures { (result ≡ placed_said (place_over file.now (setup_in setup.now) (row_in row.old) (length source_list.old) (length target_list.old)))
+        × (row.new ≡ row_placed file.now (setup_in setup.now) row.old (length source_list.old) (length target_list.old))
+        × (source_list.new ≡ source_placed file.now (setup_in setup.now) (row_in row.old) (length source_list.old) (length target_list.old) source_list.old)
+        × (target_list.new ≡ target_placed file.now (setup_in setup.now) (row_in row.old) (length source_list.old) (length target_list.old) target_list.old)
+        × (room.new ≡ placed_room (place_over file.now (setup_in setup.now) (row_in row.old) (length source_list.old) (length target_list.old)) room.old) }
 {
     let out = setupbytes::setup_in(setup);
-    let sight = planback::scan(file, out.source, routing::extracted(out));
-    let verdict = sight.answer;
-    let v = sight.seen;
-    match verdict {
-        Verdict::Sound => {
-            let z = rowbytes::place(true, row, v, out, source_list, target_list);
-            let a = z.routed;
-            let q = received(a, room);
-            placed_as(q, z.record_number, z.use_number)
-        }
-        Verdict::Refused(r) => {
-            let q = not_routed(r);
-            placed_as(q, 0, 0)
-        }
-    }
+    settled(place_over(file, out, row, source_list, target_list), room)
 }
 
 // A call placed in a port's record, as in a row of one.
@@ -496,26 +459,11 @@ pub extern "C" fn dfc_port_place(
     target_list: &mut [u8],
     room: &mut [u8; 110],
 ) -> Placed
-    ensures { (result ≡ placed file.now setup.now (call_at port.old 0 ∷ []) (length source_list.old) (length target_list.old))
-        × (port.new ≡ port_placed file.now setup.now port.old (length source_list.old) (length target_list.old))
-        × (source_list.new ≡ source_placed file.now setup.now (call_at port.old 0 ∷ []) (length source_list.old) (length target_list.old) source_list.old)
-        × (target_list.new ≡ target_placed file.now setup.now (call_at port.old 0 ∷ []) (length source_list.old) (length target_list.old) target_list.old)
-        × (room.new ≡ room_placed file.now setup.now (call_at port.old 0 ∷ []) (length source_list.old) (length target_list.old) room.old) }
+    ensures { (result ≡ placed_said (place_over file.now (setup_in setup.now) (call_at port.old 0 ∷ []) (length source_list.old) (length target_list.old)))
+        × (port.new ≡ port_placed file.now (setup_in setup.now) port.old (length source_list.old) (length target_list.old))
+        × (source_list.new ≡ source_placed file.now (setup_in setup.now) (call_at port.old 0 ∷ []) (length source_list.old) (length target_list.old) source_list.old)
+        × (target_list.new ≡ target_placed file.now (setup_in setup.now) (call_at port.old 0 ∷ []) (length source_list.old) (length target_list.old) target_list.old)
+        × (room.new ≡ placed_room (place_over file.now (setup_in setup.now) (call_at port.old 0 ∷ []) (length source_list.old) (length target_list.old)) room.old) }
 {
-    let out = setupbytes::setup_in(setup);
-    let sight = planback::scan(file, out.source, routing::extracted(out));
-    let verdict = sight.answer;
-    let v = sight.seen;
-    match verdict {
-        Verdict::Sound => {
-            let z = rowbytes::port_place(true, port, v, out, source_list, target_list);
-            let a = z.routed;
-            let q = received(a, room);
-            placed_as(q, z.record_number, z.use_number)
-        }
-        Verdict::Refused(r) => {
-            let q = not_routed(r);
-            placed_as(q, 0, 0)
-        }
-    }
+    dfc_place(file, setup, port, source_list, target_list, room)
 }

@@ -3,15 +3,16 @@
 
 ghost use Rattle.std.specs.Prelude.{◌≡◌, [], ◌∷◌, length};
 ghost use Rattle.dfc.specs.Said.{maker_of};
-ghost use Rattle.dfc.specs.Files.{checked, rewritten, room_rewritten, zoned, types_zoned, making, room_making, new_over, continued_over, reversed_over};
-ghost use Rattle.dfc.specs.Routes.{routed, room_routed, source_routed, target_routed};
+ghost use Rattle.setupbytes.specs.Codec.{setup_in};
+ghost use Rattle.dfc.specs.Files.{checked, rewritten, room_rewritten, zoned, types_zoned, made_said, made_room, new_over, continued_over, reversed_over};
+ghost use Rattle.dfc.specs.Routes.{routed_said, routed_room, route_over, source_routed, target_routed};
 ghost use Rattle.call.specs.Protocol.{step};
 ghost use Rattle.call.specs.Row.{turn, command as by-command};
 ghost use Rattle.recordbytes.specs.Records.{call_at};
 ghost use Rattle.recordbytes.specs.Steps.{step_at};
 ghost use Rattle.recordbytes.specs.Numbers.{command_of, commanded_said, reply_said};
 ghost use Rattle.rowbytes.specs.Rows.{row_in, cleared_in, commanded_in};
-ghost use Rattle.dfc.specs.Calls.{placed, row_placed, port_placed, source_placed, target_placed, room_placed};
+ghost use Rattle.dfc.specs.Calls.{placed_said, placed_room, place_over, row_placed, port_placed, source_placed, target_placed};
 
 use answers::Answer;
 use dfc::{Placed, Routed};
@@ -52,8 +53,8 @@ pub extern "C" fn dfc_new(
     target: u32,
     room: &mut [u8; 110],
 ) -> Answer
-    ensures { (result ≡ making file.now (new_over file.now (maker_of kind of_type address) string.now target))
-        × (room.new ≡ room_making file.now (new_over file.now (maker_of kind of_type address) string.now target) room.old) }
+    ensures { (result ≡ made_said (new_over file.now (maker_of kind of_type address) string.now target))
+        × (room.new ≡ made_room (new_over file.now (maker_of kind of_type address) string.now target) room.old) }
 {
     dfc::dfc_new(file, kind, of_type, address, string, target, room)
 }
@@ -71,8 +72,8 @@ pub extern "C" fn dfc_continued(
     target: u32,
     room: &mut [u8; 110],
 ) -> Answer
-    ensures { (result ≡ making file.now (continued_over file.now (maker_of kind of_type address) setup.now source string.now target))
-        × (room.new ≡ room_making file.now (continued_over file.now (maker_of kind of_type address) setup.now source string.now target) room.old) }
+    ensures { (result ≡ made_said (continued_over file.now (maker_of kind of_type address) (setup_in setup.now) source string.now target))
+        × (room.new ≡ made_room (continued_over file.now (maker_of kind of_type address) (setup_in setup.now) source string.now target) room.old) }
 {
     dfc::dfc_continued(
         file, kind, of_type, address, setup, source, string, target, room,
@@ -92,8 +93,8 @@ pub extern "C" fn dfc_reversed(
     target: u32,
     room: &mut [u8; 110],
 ) -> Answer
-    ensures { (result ≡ making file.now (reversed_over file.now (maker_of kind of_type address) setup.now source string.now target))
-        × (room.new ≡ room_making file.now (reversed_over file.now (maker_of kind of_type address) setup.now source string.now target) room.old) }
+    ensures { (result ≡ made_said (reversed_over file.now (maker_of kind of_type address) (setup_in setup.now) source string.now target))
+        × (room.new ≡ made_room (reversed_over file.now (maker_of kind of_type address) (setup_in setup.now) source string.now target) room.old) }
 {
     dfc::dfc_reversed(
         file, kind, of_type, address, setup, source, string, target, room,
@@ -109,10 +110,10 @@ pub extern "C" fn dfc_route(
     target_list: &mut [u8],
     room: &mut [u8; 110],
 ) -> Routed
-    ensures { (result ≡ routed file.now setup.now (length source_list.old) (length target_list.old))
-        × (source_list.new ≡ source_routed file.now setup.now (length source_list.old) (length target_list.old) source_list.old)
-        × (target_list.new ≡ target_routed file.now setup.now (length source_list.old) (length target_list.old) target_list.old)
-        × (room.new ≡ room_routed file.now setup.now (length source_list.old) (length target_list.old) room.old) }
+    ensures { (result ≡ routed_said (route_over file.now (setup_in setup.now) (length source_list.old) (length target_list.old)))
+        × (source_list.new ≡ source_routed file.now (setup_in setup.now) (length source_list.old) (length target_list.old) source_list.old)
+        × (target_list.new ≡ target_routed file.now (setup_in setup.now) (length source_list.old) (length target_list.old) target_list.old)
+        × (room.new ≡ routed_room (route_over file.now (setup_in setup.now) (length source_list.old) (length target_list.old)) room.old) }
 {
     dfc::dfc_route(file, setup, source_list, target_list, room)
 }
@@ -178,11 +179,11 @@ pub extern "C" fn dfc_place(
     target_list: &mut [u8],
     room: &mut [u8; 110],
 ) -> Placed
-    ensures { (result ≡ placed file.now setup.now (row_in row.old) (length source_list.old) (length target_list.old))
-        × (row.new ≡ row_placed file.now setup.now row.old (length source_list.old) (length target_list.old))
-        × (source_list.new ≡ source_placed file.now setup.now (row_in row.old) (length source_list.old) (length target_list.old) source_list.old)
-        × (target_list.new ≡ target_placed file.now setup.now (row_in row.old) (length source_list.old) (length target_list.old) target_list.old)
-        × (room.new ≡ room_placed file.now setup.now (row_in row.old) (length source_list.old) (length target_list.old) room.old) }
+    ensures { (result ≡ placed_said (place_over file.now (setup_in setup.now) (row_in row.old) (length source_list.old) (length target_list.old)))
+        × (row.new ≡ row_placed file.now (setup_in setup.now) row.old (length source_list.old) (length target_list.old))
+        × (source_list.new ≡ source_placed file.now (setup_in setup.now) (row_in row.old) (length source_list.old) (length target_list.old) source_list.old)
+        × (target_list.new ≡ target_placed file.now (setup_in setup.now) (row_in row.old) (length source_list.old) (length target_list.old) target_list.old)
+        × (room.new ≡ placed_room (place_over file.now (setup_in setup.now) (row_in row.old) (length source_list.old) (length target_list.old)) room.old) }
 {
     dfc::dfc_place(file, setup, row, source_list, target_list, room)
 }
@@ -197,11 +198,11 @@ pub extern "C" fn dfc_port_place(
     target_list: &mut [u8],
     room: &mut [u8; 110],
 ) -> Placed
-    ensures { (result ≡ placed file.now setup.now (call_at port.old 0 ∷ []) (length source_list.old) (length target_list.old))
-        × (port.new ≡ port_placed file.now setup.now port.old (length source_list.old) (length target_list.old))
-        × (source_list.new ≡ source_placed file.now setup.now (call_at port.old 0 ∷ []) (length source_list.old) (length target_list.old) source_list.old)
-        × (target_list.new ≡ target_placed file.now setup.now (call_at port.old 0 ∷ []) (length source_list.old) (length target_list.old) target_list.old)
-        × (room.new ≡ room_placed file.now setup.now (call_at port.old 0 ∷ []) (length source_list.old) (length target_list.old) room.old) }
+    ensures { (result ≡ placed_said (place_over file.now (setup_in setup.now) (call_at port.old 0 ∷ []) (length source_list.old) (length target_list.old)))
+        × (port.new ≡ port_placed file.now (setup_in setup.now) port.old (length source_list.old) (length target_list.old))
+        × (source_list.new ≡ source_placed file.now (setup_in setup.now) (call_at port.old 0 ∷ []) (length source_list.old) (length target_list.old) source_list.old)
+        × (target_list.new ≡ target_placed file.now (setup_in setup.now) (call_at port.old 0 ∷ []) (length source_list.old) (length target_list.old) target_list.old)
+        × (room.new ≡ placed_room (place_over file.now (setup_in setup.now) (call_at port.old 0 ∷ []) (length source_list.old) (length target_list.old)) room.old) }
 {
     dfc::dfc_port_place(file, setup, port, source_list, target_list, room)
 }

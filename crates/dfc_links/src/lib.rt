@@ -7,26 +7,8 @@ ghost use Rattle.links.specs.Sets.{formed};
 ghost use Rattle.links.specs.Said.{add_said, add_after, said_formed, remove_after, drop_after, listed, listed_after};
 ghost use Rattle.dfc_links.specs.Told.{at, told, counted};
 
-use answers::Answer;
-use links::{Outcome, Summed, Termination};
-
-fn answered(o: Outcome) -> Answer
-    ensures { result ≡ told o }
-{
-    match o {
-        Outcome::Done => answers::accepted(0),
-        Outcome::Refused(r) => answers::refused(r),
-    }
-}
-
-fn listing(l: Summed) -> Answer
-    ensures { result ≡ counted l }
-{
-    match l {
-        Summed::Count(n) => answers::accepted(n as u64),
-        Summed::Refused(r) => answers::refused(r),
-    }
-}
+use answers::{Answer, answered};
+use links::Termination;
 
 #[unsafe(no_mangle)]
 pub extern "C" fn dfc_links_add(
@@ -47,7 +29,7 @@ pub extern "C" fn dfc_links_add(
         port: source_port,
         channel: source_channel,
     };
-    answered(links::add(set, sink, source))
+    answered(links::add(set, sink, source).map(|()| 0))
 }
 
 #[unsafe(no_mangle)]
@@ -69,14 +51,14 @@ pub extern "C" fn dfc_links_remove(
         port: source_port,
         channel: source_channel,
     };
-    answered(links::remove(set, sink, source))
+    answered(links::remove(set, sink, source).map(|()| 0))
 }
 
 #[unsafe(no_mangle)]
 pub extern "C" fn dfc_links_drop(set: &mut [u64; 64], port: u16) -> Answer
     ensures { (result ≡ told (said_formed (formed set.old))) × (set.new ≡ drop_after port set.old) }
 {
-    answered(links::drop(set, port))
+    answered(links::drop(set, port).map(|()| 0))
 }
 
 #[unsafe(no_mangle)]
@@ -93,5 +75,5 @@ pub extern "C" fn dfc_links_sources(
         port: sink_port,
         channel: sink_channel,
     };
-    listing(links::sources(set, sink, sources))
+    answered(links::sources(set, sink, sources).map(|n| n as u64))
 }

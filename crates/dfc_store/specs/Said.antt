@@ -1,39 +1,29 @@
 -- What a C program is told of operational data, over a plan file. Assumes nothing.
-use Rattle.std.specs.Prelude.{ℕ, List}
-use Rattle.plan.specs.declared.Verdict.{Verdict}
-use Rattle.plan.specs.declared.Verdict.TheVariants.{Sound, Refused as NoPlan}
+use Rattle.std.specs.Prelude.{ℕ, List, Result, Ok, Err, Some, None}
+use Rattle.refusal.specs.declared.Refusal.{Refusal}
+use Rattle.refusal.specs.Numbers.{◌>>=◌}
 use Rattle.planread.specs.Reading.{read_of}
-use Rattle.store.specs.declared.Answer as store
-use Rattle.store.specs.declared.Answer.TheVariants.{Number, Done, Refused}
-use Rattle.store.specs.Operations.{StoreOperation, effect}
+use Rattle.store.specs.declared.Who.{Who}
+use Rattle.store.specs.Operations.{StoreOperation, Answer as StoreAnswer, effect}
 use Rattle.owners.specs.Who.{who_of}
 use Rattle.answers.specs.declared.Answer.{Answer}
 use Rattle.answers.specs.Said.{accepted, refusal}
-use Rattle.dfc_store.specs.declared.Known.{Known}
 
 -- 0 and the number read, 0 and 0 for what is done, or the refusal
-abbrev pub data_said : store.Answer → Answer
-data_said (Number n) = accepted n
-data_said Done = accepted 0
-data_said (Refused x) = refusal x
+abbrev pub data_said : StoreAnswer → Answer
+data_said (Ok (Some n)) = accepted n
+data_said (Ok None) = accepted 0
+data_said (Err x) = refusal x
 
--- the plan file's refusal, or the operation's answer
-abbrev pub told_over : Verdict → store.Answer → Answer
-told_over Sound a = data_said a
-told_over (NoPlan r) a = refusal r
+-- a box of a type at an address, by the plan of the file: who it is to the store, or the refusal of what is no plan file
+unfoldable pub known_in : List ℕ → List ℕ → List ℕ → ℕ → ℕ → Result Who Refusal
+known_in file features owners t a = read_of file >>= λ p. Ok (who_of p features owners t a)
 
--- and the data rows are as they were where the file is refused
-abbrev pub rows_over : Verdict → List ℕ → List ℕ → List ℕ
-rows_over Sound after before = after
-rows_over (NoPlan r) after before = before
+-- its operation: what the program is told, and the data rows after it, which are as they were where the file is refused
+abbrev pub told_of : Result Who Refusal → List ℕ → List ℕ → StoreOperation → Answer
+told_of (Ok w) relations b c = data_said (effect relations b w c).answer
+told_of (Err r) relations b c = refusal r
 
--- a box of a type at an address, by the plan of the file: whether there is one, and who the box is to the store
-unfoldable pub known_in : List ℕ → List ℕ → List ℕ → ℕ → ℕ → Known
-known_in file features owners t a = record { answer = (read_of file).answer; who = who_of (read_of file).plan features owners t a }
-
--- its operation: what the program is told, and the data rows after it
-unfoldable pub told_of : Known → List ℕ → List ℕ → StoreOperation → Answer
-told_of x relations b c = told_over x.answer (effect relations b x.who c).answer
-
-unfoldable pub rows_told_of : Known → List ℕ → List ℕ → StoreOperation → List ℕ
-rows_told_of x relations b c = rows_over x.answer (effect relations b x.who c).rows b
+abbrev pub rows_told_of : Result Who Refusal → List ℕ → List ℕ → StoreOperation → List ℕ
+rows_told_of (Ok w) relations b c = (effect relations b w c).rows
+rows_told_of (Err r) relations b c = b

@@ -3,39 +3,25 @@
 
 ghost use Rattle.std.specs.Prelude.{◌≡◌};
 ghost use Rattle.store.specs.Operations.{read, write, delete};
-ghost use Rattle.dfc_store.specs.Said.{data_said, known_in, told_of, rows_told_of};
+ghost use Rattle.dfc_store.specs.Said.{known_in, told_of, rows_told_of};
 
-use answers::Answer;
-use plan::Verdict;
+use answers::{Answer, answered};
+use refusal::Refusal;
 use store::Who;
 
-// Whether some bytes are a plan file, and who a box is to the store by its plan.
-#[derive(Clone, Copy)]
-struct Known {
-    answer: Verdict,
-    who: Who,
-}
-
-fn who_in(file: &[u8], features: &[u32; 32], owners: &[u32; 512], t: u8, address: u32) -> Known
+// Who a box is to the store by the plan of a file, or the refusal of what is no plan file.
+fn who_in(
+    file: &[u8],
+    features: &[u32; 32],
+    owners: &[u32; 512],
+    t: u8,
+    address: u32,
+) -> Result<Who, Refusal>
     ensures { result ≡ known_in file.now features.now owners.now t address }
 {
-    let sight = planread::scan(file, address, 0);
-    let answer = sight.answer;
-    let shown = sight.seen;
-    let types = shown.types;
-    let holder = shown.first;
-    let who = owners::who_by(types.existing, holder.kind, features, owners, t, address);
-    Known { answer, who }
-}
-
-fn data_said(a: store::Answer) -> Answer
-    ensures { result ≡ data_said a }
-{
-    match a {
-        store::Answer::Number(n) => answers::accepted(n as u64),
-        store::Answer::Done => answers::accepted(0),
-        store::Answer::Refused(x) => answers::refused(x),
-    }
+    let shown = planread::scan(file, address, 0)?;
+    let existing = shown.types.existing;
+    Ok(owners::who_by(existing, shown.first.kind, features, owners, t, address))
 }
 
 // The number of the row of this relation and key that is open to the box.
@@ -53,12 +39,9 @@ pub extern "C" fn dfc_data_read(
 ) -> Answer
     ensures { result ≡ told_of (known_in file.now features.now owners.now of_type address) relations.now rows.now (read relation key) }
 {
-    let known = who_in(file, features, owners, of_type, address);
-    let answer = known.answer;
-    let who = known.who;
-    match answer {
-        Verdict::Sound => data_said(store::read(relations, rows, who, relation, key)),
-        Verdict::Refused(r) => answers::refused(r),
+    match who_in(file, features, owners, of_type, address) {
+        Ok(who) => answered(store::read(relations, rows, who, relation, key).map(u64::from)),
+        Err(r) => answers::refused(r),
     }
 }
 
@@ -79,12 +62,9 @@ pub extern "C" fn dfc_data_write(
     ensures { (result ≡ told_of (known_in file.now features.now owners.now of_type address) relations.now rows.old (write relation key number))
         × (rows.new ≡ rows_told_of (known_in file.now features.now owners.now of_type address) relations.now rows.old (write relation key number)) }
 {
-    let known = who_in(file, features, owners, of_type, address);
-    let answer = known.answer;
-    let who = known.who;
-    match answer {
-        Verdict::Sound => data_said(store::write(relations, rows, who, relation, key, number)),
-        Verdict::Refused(r) => answers::refused(r),
+    match who_in(file, features, owners, of_type, address) {
+        Ok(who) => answered(store::write(relations, rows, who, relation, key, number).map(|()| 0)),
+        Err(r) => answers::refused(r),
     }
 }
 
@@ -104,11 +84,8 @@ pub extern "C" fn dfc_data_delete(
     ensures { (result ≡ told_of (known_in file.now features.now owners.now of_type address) relations.now rows.old (delete relation key))
         × (rows.new ≡ rows_told_of (known_in file.now features.now owners.now of_type address) relations.now rows.old (delete relation key)) }
 {
-    let known = who_in(file, features, owners, of_type, address);
-    let answer = known.answer;
-    let who = known.who;
-    match answer {
-        Verdict::Sound => data_said(store::delete(relations, rows, who, relation, key)),
-        Verdict::Refused(r) => answers::refused(r),
+    match who_in(file, features, owners, of_type, address) {
+        Ok(who) => answered(store::delete(relations, rows, who, relation, key).map(|()| 0)),
+        Err(r) => answers::refused(r),
     }
 }

@@ -1,4 +1,5 @@
 -- Digits and the numbers that they write, as the loop of `number` goes through them; and a feature code at the front of a string. Assumes nothing.
+use Rattle.std.specs.Prelude.{Option, Some, None}
 use mathlib.Core.Path.{◌≡◌, ap}
 use mathlib.Core.Bool.{Bool, true, false, not, ◌&&◌, and-false, false≢true}
 use mathlib.Core.List.{List, [], ◌∷◌}
@@ -13,8 +14,6 @@ use borrow.Author.Tests.{leb-true}
 use Rattle.typeset.proofs.Bools.{yes_or_no, clash, and_left, and_right, not-true}
 use mathlib.Core.Logic.{⊎_elim}
 use Rattle.typeset.proofs.Below.{every-at}
-use Rattle.embedded.specs.declared.Dials.{Dials}
-use Rattle.embedded.specs.declared.Dials.TheVariants.{Nobody, Address}
 use Rattle.embedded.specs.Embedded.{digit, all_digits, number_from, coded, skipped, after_code, writes_address, embedded}
 
 pub digit-from : (c : ℕ) → digit c ≡ true → 48 ≤ c
@@ -111,15 +110,15 @@ written-legal l e =
     let nine = ten-less (0 + length l) 9 (omega (arith, w.0)) in
     (omega (arith, low, nine), w.2)
 
-abbrev somebody : Dials → Bool
-somebody Nobody = false
-somebody (Address a) = true
+abbrev somebody : Option ℕ → Bool
+somebody None = false
+somebody (Some a) = true
 
-abbrev whom : Dials → ℕ
-whom Nobody = 0
-whom (Address a) = a
+abbrev whom : Option ℕ → ℕ
+whom None = 0
+whom (Some a) = a
 
-pub embedded-legal : (l : List ℕ) (a : ℕ) → embedded l ≡ Address a → (a ≤ 999999999) × (eqb a 0 ≡ false)
+pub embedded-legal : (l : List ℕ) (a : ℕ) → embedded l ≡ Some a → (a ≤ 999999999) × (eqb a 0 ≡ false)
 unfolding embedded
 embedded-legal l a e =
     ⊎_elim

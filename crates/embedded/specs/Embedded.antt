@@ -1,9 +1,7 @@
 -- The address that a dialled string embeds (manual 6.2). House rule: a leading * with two digits after it is skipped; the rest must be 1 to 9 digits whose number is not 0.
 -- Anything else embeds none. Assumes nothing.
-use Rattle.std.specs.Prelude.{ℕ, ◌+◌, ◌-◌, ◌*◌, Bool, true, false, not, ◌&&◌, cond, List, [], ◌∷◌, eqb, leb, length, get_or, drop}
+use Rattle.std.specs.Prelude.{ℕ, ◌+◌, ◌-◌, ◌*◌, Bool, true, false, not, ◌&&◌, cond, List, [], ◌∷◌, eqb, leb, length, get_or, drop, Option, Some, None}
 use Rattle.typeset.specs.Sets.{every}
-use Rattle.embedded.specs.declared.Dials.{Dials}
-use Rattle.embedded.specs.declared.Dials.TheVariants.{Nobody, Address}
 
 -- a digit, as its ASCII code
 unfoldable pub digit : ℕ → Bool
@@ -32,9 +30,9 @@ after_code l = drop (skipped l) l
 unfoldable pub writes_address : List ℕ → Bool
 writes_address l = leb 1 (length l) && leb (length l) 9 && all_digits l && not (eqb (number_from 0 l) 0)
 
-abbrev pub dialled : Bool → ℕ → Dials
-dialled true a = Address a
-dialled false a = Nobody
+abbrev pub dialled : Bool → ℕ → Option ℕ
+dialled true a = Some a
+dialled false a = None
 
-unfoldable pub embedded : List ℕ → Dials
+unfoldable pub embedded : List ℕ → Option ℕ
 embedded l = dialled (writes_address (after_code l)) (number_from 0 (after_code l))

@@ -2,35 +2,20 @@
 #![tactic(auto)]
 
 ghost use Rattle.std.specs.Prelude.{◌≡◌, true, ◌≤◌, ◌<◌, length, get_or, [], ◌∷◌};
-ghost use Rattle.embedded.specs.Embedded.{digit, all_digits, number_from, skipped, writes_address, dialled, embedded};
+ghost use Rattle.embedded.specs.Embedded.{digit, all_digits, number_from, coded, skipped, writes_address, dialled, embedded};
 
-// Whom a string dials.
-#[derive(Clone, Copy)]
-pub enum Dials {
-    Nobody,
-    Address(u32),
-}
-
+#[tactic(auto, unfolding(crate::specs::Embedded::digit))]
 fn digit(c: u8) -> bool
     ensures { result ≡ digit c }
 {
-    if c < 48 {
-        return false;
-    }
-    c <= 57
+    c.is_ascii_digit()
 }
 
+#[tactic(auto, unfolding(crate::specs::Embedded::all_digits))]
 fn all_digits(s: &[u8]) -> bool
     ensures { result ≡ all_digits s.now }
 {
-    let mut i: usize = 0;
-    while i < s.len() {
-        if !digit(s[i]) {
-            return false;
-        }
-        i += 1;
-    }
-    true
+    s.iter().all(|c| digit(*c))
 }
 
 // The number with one digit more.
@@ -38,7 +23,7 @@ fn with_digit(n: u32, c: u8) -> u32
     requires { (n < 100000000) × (digit c ≡ true) }
     ensures { result ≡ number_from n (c ∷ []) }
 {
-    n * 10 + (c - 48) as u32
+    n * 10 + u32::from(c - 48)
 }
 
 // The number that at most nine digits write.
@@ -46,58 +31,47 @@ fn number(s: &[u8]) -> u32
     requires { (length s.now ≤ 9) × (all_digits s.now ≡ true) }
     ensures { result ≡ number_from 0 s.now }
 {
-    let mut n: u32 = 0;
-    let mut i: usize = 0;
-    while i < s.len() {
-        n = with_digit(n, s[i]);
-        i += 1;
+    let mut n = 0;
+    for c in s {
+        n = with_digit(n, *c);
     }
     n
 }
 
-// How many bytes a leading feature code has: three, or none.
+// Whether a string begins with a feature code: * and two digits.
+#[tactic(auto, using(crate::proofs::Digits::no_code), unfolding(crate::specs::Embedded::coded))]
+fn coded(s: &[u8]) -> bool
+    ensures { result ≡ coded s.now }
+{
+    if s.len() < 3 {
+        return false;
+    }
+    s[0] == b'*' && digit(s[1]) && digit(s[2])
+}
+
+// How many bytes its feature code has.
+#[tactic(auto, unfolding(crate::specs::Embedded::skipped))]
 fn skipped(s: &[u8]) -> usize
     ensures { result ≡ skipped s.now }
 {
-    if s.len() < 3 {
-        return 0;
-    }
-    if s[0] != 42 {
-        return 0;
-    }
-    if !digit(s[1]) {
-        return 0;
-    }
-    if !digit(s[2]) {
-        return 0;
-    }
-    3
+    if coded(s) { 3 } else { 0 }
 }
 
 // The address that 1 to 9 digits write.
-pub fn written(s: &[u8]) -> Dials
+#[tactic(auto, unfolding(crate::specs::Embedded::writes_address))]
+pub fn written(s: &[u8]) -> Option<u32>
     ensures { result ≡ dialled (writes_address s.now) (number_from 0 s.now) }
 {
-    if s.len() < 1 {
-        return Dials::Nobody;
-    }
-    if 9 < s.len() {
-        return Dials::Nobody;
-    }
-    if !all_digits(s) {
-        return Dials::Nobody;
+    if s.is_empty() || 9 < s.len() || !all_digits(s) {
+        return None;
     }
     let a = number(s);
-    if a == 0 {
-        return Dials::Nobody;
-    }
-    Dials::Address(a)
+    (a != 0).then_some(a)
 }
 
 // The address that any bytes embed.
-pub fn embedded_in(s: &[u8]) -> Dials
+pub fn embedded_in(s: &[u8]) -> Option<u32>
     ensures { result ≡ embedded s.now }
 {
-    let from = skipped(s);
-    written(&s[from..])
+    written(&s[skipped(s)..])
 }

@@ -8,7 +8,8 @@ use Rattle.ends.specs.declared.Side.{Side}
 use Rattle.ends.specs.declared.State.{State}
 use Rattle.ends.specs.declared.Status.{Status}
 use Rattle.ends.specs.declared.Signal.{Signal}
-use Rattle.ends.specs.declared.Verdict.{Verdict}
+use Rattle.std.specs.Prelude.{Option, Result}
+use Rattle.refusal.specs.declared.Refusal.{Refusal}
 use Rattle.ends.proofs.Side.other.Reads as other
 use Rattle.ends.proofs.answer_with.Reads as answer-with
 use Rattle.ends.proofs.tear_with.Reads as tear-with
@@ -26,24 +27,24 @@ use Rattle.ends.proofs.End.after.Reads as after
 pub other-exact : (self r s : Side) → other.Post tt (self, tt) r (self, tt) → other.Post tt (self, tt) s (self, tt) → r ≡ s
 other-exact self r s p q = p ∙ sym q
 
-pub answer-with-exact : (state next : State) (r s : Verdict)
+pub answer-with-exact : (state next : State) (r s : Result State Refusal)
     → answer-with.Post tt (state, (next, tt)) r (state, (next, tt)) → answer-with.Post tt (state, (next, tt)) s (state, (next, tt)) → r ≡ s
 answer-with-exact state next r s p q = p ∙ sym q
 
-pub tear-with-exact : (state : State) (r s : Verdict) → tear-with.Post tt (state, tt) r (state, tt) → tear-with.Post tt (state, tt) s (state, tt) → r ≡ s
+pub tear-with-exact : (state : State) (r s : Result State Refusal) → tear-with.Post tt (state, tt) r (state, tt) → tear-with.Post tt (state, tt) s (state, tt) → r ≡ s
 tear-with-exact state r s p q = p ∙ sym q
 
-pub next-with-exact : (side : Side) (sends : Bool) (tunnel : ℕ) (status : Status) (channel r s : ℕ)
+pub next-with-exact : (side : Side) (sends : Bool) (tunnel : ℕ) (status : Status) (channel : ℕ) (r s : Option ℕ)
     → next-with.Post tt (side, (sends, (tunnel, (status, (channel, tt))))) r (side, (sends, (tunnel, (status, (channel, tt)))))
     → next-with.Post tt (side, (sends, (tunnel, (status, (channel, tt))))) s (side, (sends, (tunnel, (status, (channel, tt))))) → r ≡ s
 next-with-exact side sends tunnel status channel r s p q = p ∙ sym q
 
-pub speak-with-exact : (state : State) (side : Side) (tunnel : ℕ) (status : Status) (channel waiting : ℕ) (r s : Verdict)
+pub speak-with-exact : (state : State) (side : Side) (tunnel : ℕ) (status : Status) (channel waiting : ℕ) (r s : Result State Refusal)
     → speak-with.Post tt (state, (side, (tunnel, (status, (channel, (waiting, tt)))))) r (state, (side, (tunnel, (status, (channel, (waiting, tt))))))
     → speak-with.Post tt (state, (side, (tunnel, (status, (channel, (waiting, tt)))))) s (state, (side, (tunnel, (status, (channel, (waiting, tt)))))) → r ≡ s
 speak-with-exact state side tunnel status channel waiting r s p q = p ∙ sym q
 
-pub take-with-exact : (state : State) (side : Side) (x : Signal) (channel : ℕ) (r s : Verdict)
+pub take-with-exact : (state : State) (side : Side) (x : Signal) (channel : ℕ) (r s : Result State Refusal)
     → take-with.Post tt (state, (side, (x, (channel, tt)))) r (state, (side, (x, (channel, tt))))
     → take-with.Post tt (state, (side, (x, (channel, tt)))) s (state, (side, (x, (channel, tt)))) → r ≡ s
 take-with-exact state side x channel r s p q = p ∙ sym q
@@ -51,19 +52,19 @@ take-with-exact state side x channel r s p q = p ∙ sym q
 pub is-idle-exact : (self : End) (r s : Bool) → is-idle.Post tt (self, tt) r (self, tt) → is-idle.Post tt (self, tt) s (self, tt) → r ≡ s
 is-idle-exact self r s p q = p ∙ sym q
 
-pub answer-exact : (self : End) (next : State) (r s : Verdict)
+pub answer-exact : (self : End) (next : State) (r s : Result State Refusal)
     → answer.Post tt (self, (next, tt)) r (self, (next, tt)) → answer.Post tt (self, (next, tt)) s (self, (next, tt)) → r ≡ s
 answer-exact self next r s p q = p ∙ sym q
 
-pub speak-exact : (self : End) (side : Side) (tunnel : ℕ) (status : Status) (waiting : ℕ) (r s : Verdict)
+pub speak-exact : (self : End) (side : Side) (tunnel : ℕ) (status : Status) (waiting : ℕ) (r s : Result State Refusal)
     → speak.Post tt (self, (side, (tunnel, (status, (waiting, tt))))) r (self, (side, (tunnel, (status, (waiting, tt)))))
     → speak.Post tt (self, (side, (tunnel, (status, (waiting, tt))))) s (self, (side, (tunnel, (status, (waiting, tt))))) → r ≡ s
 speak-exact self side tunnel status waiting r s p q = p ∙ sym q
 
-pub tear-exact : (self : End) (r s : Verdict) → tear.Post tt (self, tt) r (self, tt) → tear.Post tt (self, tt) s (self, tt) → r ≡ s
+pub tear-exact : (self : End) (r s : Result State Refusal) → tear.Post tt (self, tt) r (self, tt) → tear.Post tt (self, tt) s (self, tt) → r ≡ s
 tear-exact self r s p q = p ∙ sym q
 
-pub take_exact : (self : End) (side : Side) (x : Signal) (r s : Verdict)
+pub take_exact : (self : End) (side : Side) (x : Signal) (r s : Result State Refusal)
     → take.Post tt (self, (side, (x, tt))) r (self, (side, (x, tt))) → take.Post tt (self, (side, (x, tt))) s (self, (side, (x, tt))) → r ≡ s
 take_exact self side x r s p q = p ∙ sym q
 

@@ -1,5 +1,5 @@
 -- What an end of a call is, sends and takes (01 'Calls', manual 8; 02 'Ask 2', manual 9). Assumes nothing.
-use Rattle.std.specs.Prelude.{ℕ, ◌%◌, Bool, true, false, cond, not, ◌&&◌, List, get_or, set, ltb, eqb}
+use Rattle.std.specs.Prelude.{ℕ, ◌%◌, Bool, true, false, cond, not, ◌&&◌, List, Option, Some, None as Nothing, Result, Ok, Err, get_or, set, ltb, eqb}
 use Rattle.refusal.specs.declared.Refusal.{Refusal}
 use Rattle.refusal.specs.declared.Refusal.TheVariants.{StateForbids, TooManyWaiting, NotOrdinary, BrokenRecord, TunnelTaken, ChannelForbids}
 use Rattle.channels.specs.Channels.{«open», oack, onack, ready, close, closeack, status, no_state, follows}
@@ -12,8 +12,6 @@ use Rattle.ends.specs.declared.Status.{Status}
 use Rattle.ends.specs.declared.Status.TheVariants.{Unknown, Avail, Unavail, None, Dtmf, Special, Open, Oack, Onack, Ready, Close, Closeack}
 use Rattle.ends.specs.declared.Signal.{Signal}
 use Rattle.ends.specs.declared.Signal.TheVariants.{Upack, Ordinary, Teardown, Downack}
-use Rattle.ends.specs.declared.Verdict.{Verdict}
-use Rattle.ends.specs.declared.Verdict.TheVariants.{Refuse as refuse, Become as become}
 
 -- SIDES
 abbrev pub other : Side → Side
@@ -94,6 +92,10 @@ channel_at tunnel cs = get_or cs tunnel no_state
 abbrev pub next_with : Side → Bool → ℕ → Status → ℕ → ℕ
 next_with s sends tunnel x n = follows (opens s tunnel) sends n (kind_of x)
 
+-- The same where a step is looked for: nothing where there is none.
+abbrev pub step_with : Side → Bool → ℕ → Status → ℕ → Option ℕ
+step_with s sends tunnel x n = cond (eqb (next_with s sends tunnel x n) no_state) Nothing (Some (next_with s sends tunnel x n))
+
 abbrev pub next_channel : Side → Bool → ℕ → Status → List ℕ → ℕ
 next_channel s sends tunnel x cs = next_with s sends tunnel x (channel_at tunnel cs)
 
@@ -123,30 +125,30 @@ abbrev pub with_channel : State → ℕ → ℕ → List ℕ → End
 with_channel s tunnel n cs = within s (set cs tunnel n)
 
 -- The callee answers once: a waiting end, which is in the state `next` then.
-abbrev pub answers : State → State → Verdict
-answers s next = cond (is_waiting s) (become next) (refuse StateForbids)
+abbrev pub answers : State → State → Result State Refusal
+answers s next = cond (is_waiting s) (Ok next) (Err StateForbids)
 
 -- A linked end may send an ordinary signal that is fit for its channel, here in state n, while fewer than 14 wait there, and stays linked: 12, 15, 40, 41, 13.
-abbrev pub speaks_with : State → Side → ℕ → Status → ℕ → ℕ → Verdict
+abbrev pub speaks_with : State → Side → ℕ → Status → ℕ → ℕ → Result State Refusal
 speaks_with st s tunnel x n waiting =
     cond (is_linked st)
     (cond (is_ordinary tunnel x)
-    (cond (fits_with s true tunnel x n) (cond (ltb waiting 14) (become Linked) (refuse TooManyWaiting)) (refuse (forbidden x)))
-    (refuse NotOrdinary))
-    (refuse StateForbids)
+    (cond (fits_with s true tunnel x n) (cond (ltb waiting 14) (Ok Linked) (Err TooManyWaiting)) (Err (forbidden x)))
+    (Err NotOrdinary))
+    (Err StateForbids)
 
-abbrev pub speaks : Side → End → ℕ → Status → ℕ → Verdict
+abbrev pub speaks : Side → End → ℕ → Status → ℕ → Result State Refusal
 speaks s e tunnel x waiting = speaks_with e.state s tunnel x (channel_at tunnel e.channels) waiting
 
 -- A linked end may send teardown, and is unlinking then.
-abbrev pub tears : State → Verdict
-tears s = cond (is_linked s) (become Unlinking) (refuse StateForbids)
+abbrev pub tears : State → Result State Refusal
+tears s = cond (is_linked s) (Ok Unlinking) (Err StateForbids)
 
 -- An ordinary signal handed over leaves the end in its state; one outside the list, or unfit for its channel, here in state n, can't be taken.
-abbrev pub hears_with : State → Side → ℕ → Status → ℕ → Verdict
-hears_with st s tunnel x n = cond (is_ordinary tunnel x) (cond (fits_with s false tunnel x n) (become st) (refuse BrokenRecord)) (refuse BrokenRecord)
+abbrev pub hears_with : State → Side → ℕ → Status → ℕ → Result State Refusal
+hears_with st s tunnel x n = cond (is_ordinary tunnel x) (cond (fits_with s false tunnel x n) (Ok st) (Err BrokenRecord)) (Err BrokenRecord)
 
-abbrev pub hears : Side → End → ℕ → Status → Verdict
+abbrev pub hears : Side → End → ℕ → Status → Result State Refusal
 hears s e tunnel x = hears_with e.state s tunnel x (channel_at tunnel e.channels)
 
 -- the channel that a signal is for; any number for a signal that is for none
@@ -157,21 +159,21 @@ channel_for Teardown cs = 0
 channel_for Downack cs = 0
 
 -- What an end does with a signal handed to it. Requesting takes upack and is linked; linked takes ordinary signals, and on teardown is idle; unlinking takes ordinary signals, stays on teardown, and on downack is idle. Nothing else can be taken.
-abbrev pub takes_with : State → Side → Signal → ℕ → Verdict
-takes_with Idle s x n = refuse BrokenRecord
-takes_with Requesting s Upack n = become Linked
-takes_with Requesting s (Ordinary tunnel x) n = refuse BrokenRecord
-takes_with Requesting s Teardown n = refuse BrokenRecord
-takes_with Requesting s Downack n = refuse BrokenRecord
-takes_with Waiting s x n = refuse BrokenRecord
-takes_with Linked s Upack n = refuse BrokenRecord
+abbrev pub takes_with : State → Side → Signal → ℕ → Result State Refusal
+takes_with Idle s x n = Err BrokenRecord
+takes_with Requesting s Upack n = Ok Linked
+takes_with Requesting s (Ordinary tunnel x) n = Err BrokenRecord
+takes_with Requesting s Teardown n = Err BrokenRecord
+takes_with Requesting s Downack n = Err BrokenRecord
+takes_with Waiting s x n = Err BrokenRecord
+takes_with Linked s Upack n = Err BrokenRecord
 takes_with Linked s (Ordinary tunnel x) n = hears_with Linked s tunnel x n
-takes_with Linked s Teardown n = become Idle
-takes_with Linked s Downack n = refuse BrokenRecord
-takes_with Unlinking s Upack n = refuse BrokenRecord
+takes_with Linked s Teardown n = Ok Idle
+takes_with Linked s Downack n = Err BrokenRecord
+takes_with Unlinking s Upack n = Err BrokenRecord
 takes_with Unlinking s (Ordinary tunnel x) n = hears_with Unlinking s tunnel x n
-takes_with Unlinking s Teardown n = become Unlinking
-takes_with Unlinking s Downack n = become Idle
+takes_with Unlinking s Teardown n = Ok Unlinking
+takes_with Unlinking s Downack n = Ok Idle
 
-abbrev pub takes : Side → End → Signal → Verdict
+abbrev pub takes : Side → End → Signal → Result State Refusal
 takes s e x = takes_with e.state s x (channel_for x e.channels)

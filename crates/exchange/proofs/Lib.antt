@@ -1,3 +1,3 @@
-pub mod Rows
+pub mod Lowest
 pub mod Numbered
 pub mod Exact

@@ -8,7 +8,7 @@ use lib.ListN.{length}
 use lib.Dec.{ltb, leb}
 use Rattle.refusal.specs.declared.Refusal.TheVariants.{TooManyWaiting, NotOrdinary, BrokenRecord}
 use Rattle.ends.specs.declared.Side.{Side}
-use Rattle.ends.specs.declared.Verdict.TheVariants.{Refuse as refuse, Become as become}
+use Rattle.std.specs.Prelude.{Ok, Err}
 use Rattle.ends.specs.Ends.{is_open, fits, forbidden}
 use Rattle.ends.specs.declared.State.{State}
 use Rattle.ends.specs.declared.State.TheVariants.{Idle, Requesting, Waiting, Linked, Unlinking}
@@ -36,7 +36,7 @@ yes_or_no true = inl refl
 yes_or_no false = inr refl
 
 module _ (c : Call) (m : ℕ) where
-  does : (k : Command) (next : State) → number_in (outcome c k (fit (become next) m)).answer ≡ cond (leb m 16) 0 17
+  does : (k : Command) (next : State) → number_in (outcome c k (fit (Ok next) m)).answer ≡ cond (leb m 16) 0 17
   does k next = ⊎_elim (λ (yes : leb m 16 ≡ true). rw yes (handed k (waiting (actor k) c))) (λ (no : leb m 16 ≡ false). rw no) (yes_or_no (leb m 16))
 
   -- what each command comes to
@@ -57,7 +57,7 @@ module _ (c : Call) (m : ℕ) where
   tearing k Linked = does k Unlinking
   tearing k Unlinking = refl
 
-  forbids : (k : Command) (x : Status) → number_in (outcome c k (fit (refuse (forbidden x)) m)).answer ≡ or_else (cond (is_open x) 40 41) room
+  forbids : (k : Command) (x : Status) → number_in (outcome c k (fit (Err (forbidden x)) m)).answer ≡ or_else (cond (is_open x) 40 41) room
   forbids k x = ⊎_elim (λ (o : is_open x ≡ true). rw o) (λ (o : is_open x ≡ false). rw o) (yes_or_no (is_open x))
 
   speaking : (k : Command) (e : Side) (s : State) (cs : List ℕ) (tunnel : ℕ) (x : Status) (n : ℕ)
@@ -69,7 +69,7 @@ module _ (c : Call) (m : ℕ) where
   speaking k e Linked cs tunnel x n = go (is_ordinary tunnel x) (fits e true tunnel x cs) (ltb n 14)
     where
       go : (o f l : Bool)
-          → number_in (outcome c k (fit (cond o (cond f (cond l (become Linked) (refuse TooManyWaiting)) (refuse (forbidden x))) (refuse NotOrdinary)) m)).answer
+          → number_in (outcome c k (fit (cond o (cond f (cond l (Ok Linked) (Err TooManyWaiting)) (Err (forbidden x))) (Err NotOrdinary)) m)).answer
           ≡ or_else (cond o (cond f (cond l 0 13) (cond (is_open x) 40 41)) 15) room
       go true true true = does k Linked
       go true true false = refl
@@ -81,7 +81,7 @@ module _ (c : Call) (m : ℕ) where
       → number_in (outcome c k (fit (hears e (within s cs) tunnel x) m)).answer ≡ or_else (cond (is_ordinary tunnel x && fits e false tunnel x cs) 0 17) room
   hearing k e s cs tunnel x = go (is_ordinary tunnel x) (fits e false tunnel x cs)
     where
-      go : (o f : Bool) → number_in (outcome c k (fit (cond o (cond f (become s) (refuse BrokenRecord)) (refuse BrokenRecord)) m)).answer ≡ or_else (cond (o && f) 0 17) room
+      go : (o f : Bool) → number_in (outcome c k (fit (cond o (cond f (Ok s) (Err BrokenRecord)) (Err BrokenRecord)) m)).answer ≡ or_else (cond (o && f) 0 17) room
       go true true = does k s
       go true false = refl
       go false f = refl

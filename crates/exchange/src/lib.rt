@@ -9,28 +9,11 @@ ghost use Rattle.exchange.specs.Lent as spec;
 
 use call::Call;
 
-// A record copied out of a row, and whether the row has it; the cleared record beside false.
-#[derive(Clone, Copy)]
-pub struct Taken {
-    pub inside: bool,
-    pub call: Call,
-}
-
-// A RECORD OF A ROW
-pub fn copy_out(row: &[Call], r: usize) -> Taken
+// A RECORD OF A ROW, if the row has it
+pub fn copy_out(row: &[Call], r: usize) -> Option<Call>
     ensures { result ≡ spec.taken_at row.now r }
 {
-    if r < row.len() {
-        Taken {
-            inside: true,
-            call: row[r],
-        }
-    } else {
-        Taken {
-            inside: false,
-            call: Call::cleared(),
-        }
-    }
+    row.get(r).copied()
 }
 
 // Nothing is stored past the end.
@@ -42,18 +25,11 @@ pub fn store(row: &mut [Call], r: usize, c: Call)
     }
 }
 
-// The lowest free record; the row's length where none is free.
+// The lowest free record; the row's length where none is free. (The length and no `Option`: `lowest_free` (call/Row) is a number, and 16 and 11 are told by comparing it.)
 pub fn lowest_free(row: &[Call]) -> usize
     ensures { result ≡ lowest_free row.now }
 {
-    let mut i: usize = 0;
-    while i < row.len() {
-        if row[i].is_free() {
-            return i;
-        }
-        i += 1;
-    }
-    i
+    row.iter().position(|c| c.is_free()).unwrap_or(row.len())
 }
 
 // CLEARING
@@ -63,14 +39,8 @@ pub fn clear_port(port: &mut Call)
     *port = Call::cleared();
 }
 
-#[tactic(auto, using(crate::proofs::Rows::from_start, crate::proofs::Rows::from_end))]
 pub fn clear(row: &mut [Call])
     ensures { row.new ≡ replicate (length row.old) cleared }
 {
-    let c = Call::cleared();
-    let mut i: usize = 0;
-    while i < row.len() {
-        row[i] = c;
-        i += 1;
-    }
+    row.fill(Call::cleared());
 }

@@ -1,5 +1,5 @@
 // What is provisioned for the two features: which types provide them, who owns which address, and what the relations belong to.
-use store_script::{Stored, with_feature, with_pair, with_relation};
+use store_script::Stored;
 
 // The types of the feature boxes, and the features that they provide.
 pub const FORWARDING: u8 = 5;
@@ -15,6 +15,9 @@ const ANN: u32 = 1;
 
 const BOB: u32 = 2;
 
+// The relations: the number of each is its place here.
+pub const RELATIONS: [&str; 4] = ["targets", "screened", "names", "tallies"];
+
 // What the second word of a relation says: whether its rows belong to customers.
 const BY_CUSTOMER: u32 = 1;
 
@@ -22,26 +25,17 @@ const NOBODYS: u32 = 0;
 
 const NO_FEATURE: u32 = 0;
 
-fn with_features(s: Stored) -> Stored {
-    let s = with_feature(s, FORWARDING as u32, FORWARDS);
-    with_feature(s, SCREENING as u32, SCREENS)
-}
-
 // Nobody owns the line 200.
-fn with_owners(s: Stored) -> Stored {
-    let s = with_pair(s, 0, 300, ANN);
-    let s = with_pair(s, 1, 555, ANN);
-    with_pair(s, 2, 700, BOB)
-}
-
-// Targets, screened, names, tallies.
-fn with_relations(s: Stored) -> Stored {
-    let s = with_relation(s, 0, FORWARDS, BY_CUSTOMER);
-    let s = with_relation(s, 1, SCREENS, BY_CUSTOMER);
-    let s = with_relation(s, 2, NO_FEATURE, BY_CUSTOMER);
-    with_relation(s, 3, SCREENS, NOBODYS)
-}
-
 pub fn provisioned() -> Stored {
-    with_relations(with_owners(with_features(store_script::fresh())))
+    let mut stored = Stored::new();
+    stored.set_feature(u32::from(FORWARDING), FORWARDS);
+    stored.set_feature(u32::from(SCREENING), SCREENS);
+    stored.set_pair(0, 300, ANN);
+    stored.set_pair(1, 555, ANN);
+    stored.set_pair(2, 700, BOB);
+    stored.set_relation(0, FORWARDS, BY_CUSTOMER);
+    stored.set_relation(1, SCREENS, BY_CUSTOMER);
+    stored.set_relation(2, NO_FEATURE, BY_CUSTOMER);
+    stored.set_relation(3, SCREENS, NOBODYS);
+    stored
 }

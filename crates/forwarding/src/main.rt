@@ -4,98 +4,97 @@
 
 mod data;
 
-use console::Words;
+use console::Word;
+use refusal::Refusal;
 use std::io;
-use store::Answer;
-use store_script::{Done, Stored};
+use store_script::{FeatureBox, Stored};
+
+const NAMES: [&str; 9] = [
+    "forwarding",
+    "screening",
+    "read",
+    "write",
+    "delete",
+    "targets",
+    "screened",
+    "names",
+    "tallies",
+];
 
 // ---- the words of a line: BOX ADDRESS OPERATION RELATION KEY, and of a write a NUMBER
 
-// The numbers of the relations are their places here.
-fn relation_of(w: Words) -> u32 {
-    let i = console::number_of(b"targets screened names tallies", console::word(w, 3));
-    if i < 64 { i as u32 } else { 64 }
+// As many as there are where the word is no relation's name.
+fn relation_at(words: &[Word], i: usize) -> u32 {
+    let is_here = |name: &&str| words.get(i) == Some(&Word::Name(name));
+    let at = data::RELATIONS.iter().position(is_here);
+    at.unwrap_or(data::RELATIONS.len()) as u32
 }
 
-// The types of the two features.
-fn type_of(w: Words) -> u8 {
-    let i = console::number_of(b"forwarding screening", console::word(w, 0));
-    match i {
-        0 => data::FORWARDING,
-        1 => data::SCREENING,
+// The name at a place; an empty one where there is none.
+fn name_at<'a>(words: &[Word<'a>], i: usize) -> &'a [u8] {
+    match words.get(i) {
+        Some(Word::Name(name)) => name.as_bytes(),
+        _ => b"",
+    }
+}
+
+// The number at a place; 0 where there is none, or one that is too large for a word. (Each program has its own answer for what is missing.)
+fn number_at(words: &[Word], i: usize) -> u32 {
+    match words.get(i) {
+        Some(Word::Number(n)) => u32::try_from(*n).unwrap_or(0),
         _ => 0,
     }
 }
 
-fn number(w: Words, i: usize) -> u32 {
-    store_script::word_of(console::word(w, i))
-}
-
-fn operation_of(w: Words) -> usize {
-    console::number_of(b"read write delete", console::word(w, 2))
-}
-
-fn understood(w: Words) -> bool {
-    let names = console::words_of(
-        b"forwarding screening read write delete targets screened names tallies",
-    );
-    console::known(w, names) && operation_of(w) < 3
-}
-
-fn step(d: Stored, w: Words) -> Done {
-    let operation = operation_of(w);
-    let t = type_of(w);
-    let address = number(w, 1);
-    let r = relation_of(w);
-    match operation {
-        0 => Done {
-            stored: d,
-            answer: store_script::read(d, t, address, r, number(w, 4)),
+fn box_of(words: &[Word]) -> FeatureBox {
+    FeatureBox {
+        of_type: match name_at(words, 0) {
+            b"forwarding" => data::FORWARDING,
+            b"screening" => data::SCREENING,
+            _ => 0,
         },
-        1 => store_script::write(d, t, address, r, number(w, 4), number(w, 5)),
-        _ => store_script::delete(d, t, address, r, number(w, 4)),
+        address: number_at(words, 1),
     }
 }
 
-fn say_answer(rt: &impl Print, a: Answer) -> io::Result<()> {
-    match a {
-        Answer::Number(n) => console::say_number(rt, n as u64),
-        Answer::Done => console::say(rt, b"done"),
-        Answer::Refused(r) => console::say_refused(rt, r),
+// A number that was read, or nothing where a row was changed; no answer where the words ask for no operation.
+fn step(stored: &mut Stored, words: &[Word]) -> Option<Result<Option<u32>, Refusal>> {
+    if !console::known(words, &NAMES) {
+        return None;
+    }
+    let by = box_of(words);
+    let relation = relation_at(words, 3);
+    let key = number_at(words, 4);
+    match name_at(words, 2) {
+        b"read" => Some(stored.read(by, relation, key).map(Some)),
+        b"write" => {
+            let done = stored.write(by, relation, key, number_at(words, 5));
+            Some(done.map(|()| None))
+        }
+        b"delete" => Some(stored.delete(by, relation, key).map(|()| None)),
+        _ => None,
     }
 }
 
 // A remark and an empty line are printed as they are; a line with another word is answered `unknown`.
-fn with_line(rt: &impl Print, d: Stored, text: &[u8]) -> io::Result<Stored> {
-    console::say(rt, text)?;
+fn one_line(rt: &(impl Print + AllocGlobal), stored: &mut Stored, text: &[u8]) -> io::Result<()> {
+    rt.write_all(text)?;
     if console::is_remark(text) {
-        console::say(rt, b"\n")?;
-        return Ok(d);
+        return println!(rt);
     }
-    console::say(rt, b": ")?;
-    let words = console::words_of(text);
-    if !understood(words) {
-        console::say(rt, b"unknown\n")?;
-        return Ok(d);
+    let small = console::in_small_letters(rt.alloc(), text)?;
+    let words = console::words_of(rt.alloc(), &small)?;
+    match step(stored, &words) {
+        Some(Ok(Some(n))) => println!(rt; ": {n}"),
+        Some(Ok(None)) => println!(rt; ": done"),
+        Some(Err(r)) => println!(rt; ": {r}"),
+        None => println!(rt; ": unknown"),
     }
-    let done = step(d, words);
-    let answer = done.answer;
-    say_answer(rt, answer)?;
-    console::say(rt, b"\n")?;
-    Ok(done.stored)
 }
 
 fn main(rt: HostRuntime) -> io::Result<()> {
-    let mut input = rt.reader();
-    let mut d = data::provisioned();
-    let mut line = [0u8; 200];
-    for _ in 0u32..100_000u32 {
-        let read = console::read_line(&mut input, &mut line)?;
-        if read.ended {
-            return Ok(());
-        }
-        let n = read.len;
-        d = with_line(&rt, d, &line[..n])?;
-    }
-    Ok(())
+    let mut stored = data::provisioned();
+    console::for_each_line(&mut rt.reader(), &mut [0; 200], |text| {
+        one_line(&rt, &mut stored, text)
+    })
 }

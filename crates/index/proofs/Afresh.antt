@@ -1,4 +1,5 @@
 -- An update that is accepted leaves the index that is built afresh from the plan that it answers; the lists of types that are not touched are as they were. Assumes nothing.
+use Rattle.std.specs.Prelude.{Option, Some, None}
 use mathlib.Core.Path.{◌≡◌, refl, sym, ap, ◌∙◌}
 use mathlib.Core.Bool.{Bool, true, false, cond}
 use mathlib.Core.List.{List, []}
@@ -8,13 +9,11 @@ use lib.ListN.{length, get_or}
 use Rattle.typeset.specs.Sets.{has}
 use Rattle.plan.specs.declared.Region.{Region}
 use Rattle.plan.specs.declared.Plan.{Plan}
-use Rattle.plan.specs.declared.Found.{Found}
-use Rattle.plan.specs.declared.Found.TheVariants.{At, Nothing}
 use Rattle.plan.specs.Parts.{at, subscribed}
 use Rattle.plan.specs.Sound.{sound}
 use Rattle.plan.specs.Find.{used, lookup}
 use Rattle.plan.proofs.Lookup.{found-used}
-use Rattle.index.specs.declared.Indexed.TheVariants.{Done}
+use Rattle.std.specs.Prelude.{Ok}
 use Rattle.index.specs.Index.{row, list_of, index_of, subscribers_to, row_for, resubscribed, changed}
 use Rattle.index.specs.Said.{sets_fit, matches, said_found, left, updated_by, updated, plan_after, index_after}
 use Rattle.index.specs.Steps.{wants}
@@ -39,30 +38,30 @@ module _ (p : Plan) (i source target : ℕ) (long : length p.subscribers ≡ 256
 
 -- ---- what an update that was accepted found: a sound plan, sets that fit, the plan's index, and who has the address
 
-done-needs : (kept : Bool) (f : Found) (fit m : Bool) → said_found kept f fit m ≡ Done → (kept ≡ true) × (fit ≡ true) × (m ≡ true)
+done-needs : (kept : Bool) (f : (Option ℕ)) (fit m : Bool) → said_found kept f fit m ≡ Ok tt → (kept ≡ true) × (fit ≡ true) × (m ≡ true)
 done-needs false f fit m e = let z : ◌≡◌ {A = ℕ} 0 1 = cc in let no : ⊥ = omega arith in absurd no
-done-needs true Nothing fit m e = let z : ◌≡◌ {A = ℕ} 0 1 = cc in let no : ⊥ = omega arith in absurd no
-done-needs true (At i) false m e = let z : ◌≡◌ {A = ℕ} 0 1 = cc in let no : ⊥ = omega arith in absurd no
-done-needs true (At i) true false e = let z : ◌≡◌ {A = ℕ} 0 1 = cc in let no : ⊥ = omega arith in absurd no
-done-needs true (At i) true true e = (refl, refl, refl)
+done-needs true None fit m e = let z : ◌≡◌ {A = ℕ} 0 1 = cc in let no : ⊥ = omega arith in absurd no
+done-needs true (Some i) false m e = let z : ◌≡◌ {A = ℕ} 0 1 = cc in let no : ⊥ = omega arith in absurd no
+done-needs true (Some i) true false e = let z : ◌≡◌ {A = ℕ} 0 1 = cc in let no : ⊥ = omega arith in absurd no
+done-needs true (Some i) true true e = (refl, refl, refl)
 
-done-found : {C : Type 0} (kept : Bool) (f : Found) (fit m : Bool) → said_found kept f fit m ≡ Done → ((i : ℕ) → f ≡ At i → C) → C
+done-found : {C : Type 0} (kept : Bool) (f : (Option ℕ)) (fit m : Bool) → said_found kept f fit m ≡ Ok tt → ((i : ℕ) → f ≡ Some i → C) → C
 done-found false f fit m e found = let z : ◌≡◌ {A = ℕ} 0 1 = cc in let no : ⊥ = omega arith in absurd no
-done-found true Nothing fit m e found = let z : ◌≡◌ {A = ℕ} 0 1 = cc in let no : ⊥ = omega arith in absurd no
-done-found true (At i) fit m e found = found i refl
+done-found true None fit m e found = let z : ◌≡◌ {A = ℕ} 0 1 = cc in let no : ⊥ = omega arith in absurd no
+done-found true (Some i) fit m e found = found i refl
 
 -- ---- what it leaves
 
-module _ (p : Plan) (index : List (List ℕ)) (a source target : ℕ) (long : length p.subscribers ≡ 256) (done : updated p a source target index ≡ Done) where
+module _ (p : Plan) (index : List (List ℕ)) (a source target : ℕ) (long : length p.subscribers ≡ 256) (done : updated p a source target index ≡ Ok tt) where
   found_all : (sound p ≡ true) × (sets_fit p.types source target ≡ true) × (matches p index ≡ true)
   unfolding updated updated_by
   found_all = done-needs (sound p) (lookup p a) (sets_fit p.types source target) (matches p index) done
 
-  found-who : {C : Type 0} → ((i : ℕ) → lookup p a ≡ At i → C) → C
+  found-who : {C : Type 0} → ((i : ℕ) → lookup p a ≡ Some i → C) → C
   unfolding updated updated_by
   found-who = done-found (sound p) (lookup p a) (sets_fit p.types source target) (matches p index) done
 
-  module _ (i : ℕ) (f : lookup p a ≡ At i) where
+  module _ (i : ℕ) (f : lookup p a ≡ Some i) where
     leaves : (plan_after p a source target index ≡ changed p i source target) × (index_after p a source target index ≡ index_of (changed p i source target))
     unfolding plan_after index_after
     leaves =
@@ -80,7 +79,7 @@ module _ (p : Plan) (index : List (List ℕ)) (a source target : ℕ) (long : le
   afresh other = found-who (λ i f. afresh-at i f other)
 
   -- the list of a type that the subscriber has as before in the region: as it was, place by place
-  pub lists-kept : Shaped index → (i : ℕ) → lookup p a ≡ At i → (r : Region) (t : ℕ) → t < 32
+  pub lists-kept : Shaped index → (i : ℕ) → lookup p a ≡ Some i → (r : Region) (t : ℕ) → t < 32
       → has t (subscribed r (resubscribed source target (at p.subscribers i))) ≡ has t (subscribed r (at p.subscribers i))
       → get_or (index_after p a source target index) (row_for r t) [] ≡ get_or index (row_for r t) []
   unfolding index_of

@@ -8,20 +8,21 @@ use native.Mathlib.Nat.{add-zero, add-suc}
 use native.Mathlib.Numerals.{add-one}
 use native.Mathlib.Omega.{arith}
 use lib.Dec.{eqb, ltb}
-use lib.ListN.{length, get_or, set, take, drop, replicate, length-append, length-replicate, get_or-replicate, get_or-append}
+use lib.ListN.{length, get_or, set, drop, replicate, length-append, length-replicate, get_or-replicate, get_or-append}
 use lib.Seq.{get_or_at, get_or-append-add, get_or-set_same, get_or-set_other}
 use borrow.Author.Tests.{lt-ltb, le-ltb, eq-eqb, ne_eqb, eqb-true, eqb-false, ltb-true, ltb-false}
 use Rattle.typeset.specs.Sets.{every, without, lowest}
 use Rattle.typeset.proofs.Bools.{yes_or_no}
-use Rattle.typeset.proofs.Below.{every-ext, every-last, every-no, every-none}
+use Rattle.typeset.proofs.Below.{every-ext, every-last, every-no}
 use Rattle.plan.specs.declared.Subscriber.{Subscriber}
-use Rattle.plan.specs.Parts.{at}
+use Rattle.plan.specs.Parts.{nobody, at}
+use Rattle.lists.proofs.Places.{here}
 use Rattle.index.specs.Index.{address_of, row}
 use Rattle.index.specs.Steps.{wants, members, touched, ends_at, goes_on, all_go_on, owing}
 use Rattle.index.specs.Said.{same_row}
 use Rattle.lists.specs.Lists.{keep}
 use Rattle.index.proofs.Rows.{touched-here, touched-gone, touched-other, touched_none}
-use Rattle.index.proofs.Built.{row_count, touched-source, touched-target, members-le, next}
+use Rattle.index.proofs.Built.{row_count, touched-source, touched-target, members-le}
 
 -- ---- a row that goes on with a list from its first place on is the list's row
 
@@ -95,20 +96,6 @@ module _ (r : List ℕ) where
   pub same-is-going : (l : List ℕ) → length l ≤ 256 → goes_on 0 r l ≡ same_row r (row l)
   unfolding same_row every
   same-is-going l h = goes-is l [] (omega arith)
-
--- ---- places of 0, one more
-
-pub blank-first : (n : ℕ) (p : ℕ → Bool) → true ≡ every (n - n) p
-blank-first n p =
-    let none : n - n ≡ 0 = omega arith in
-    rw none (sym (every-none p))
-
-pub blank-more : (r : List ℕ) (n j : ℕ) (b : Bool) → n ≤ j → b ≡ every (j - n) (λ u. eqb (get_or r (n + u) 0) 0)
-    → (b && eqb (get_or r j 0) 0) ≡ every (j + 1 - n) (λ u. eqb (get_or r (n + u) 0) 0)
-blank-more r n j b h e =
-    let more : j + 1 - n ≡ suc (j - n) = omega arith in
-    let there : n + (j - n) ≡ j = omega arith in
-    rw more (rw e (ap (λ (k : ℕ). every (j - n) (λ u. eqb (get_or r (n + u) 0) 0) && eqb (get_or r k 0) 0) (sym there) ∙ sym (every-last (j - n) (λ u. eqb (get_or r (n + u) 0) 0))))
 
 -- ---- the rows of the types of a set go on with an address
 
@@ -200,20 +187,20 @@ all_same index l h =
 
 -- ---- a turn of the loop through the subscribers, in two parts: its source set, then its target set
 
-module _ (subs : List Subscriber) (count i : ℕ) (long : length subs ≡ 256) (few : count ≤ 256) (low : i < count) (met met' : List ℕ) (index : List (List ℕ)) (r whole : Bool)
-    (inv : all_go_on met index (λ k. members k (drop i (take count subs))) ≡ whole)
+module _ (subs : List Subscriber) (i : ℕ) (low : i < length subs) (met met' : List ℕ) (index : List (List ℕ)) (r whole : Bool)
+    (inv : all_go_on met index (λ k. members k (drop i subs)) ≡ whole)
     (f : (rest : ℕ → List ℕ) → (r && all_go_on met' index rest) ≡ all_go_on met index (owing 0 (at subs i).source (at subs i).address rest)) where
-  after-source : (r && all_go_on met' index (owing 32 (at subs i).target (at subs i).address (λ k. members k (drop (i + 1) (take count subs))))) ≡ whole
+  after-source : (r && all_go_on met' index (owing 32 (at subs i).target (at subs i).address (λ k. members k (drop (i + 1) subs)))) ≡ whole
   after-source =
-      f (owing 32 (at subs i).target (at subs i).address (λ k. members k (drop (i + 1) (take count subs))))
-      ∙ owing-one met index (at subs i) (drop (i + 1) (take count subs))
-      ∙ ap (λ (l : List Subscriber). all_go_on met index (λ k. members k l)) (sym (next subs count i long few low))
+      f (owing 32 (at subs i).target (at subs i).address (λ k. members k (drop (i + 1) subs)))
+      ∙ owing-one met index (at subs i) (drop (i + 1) subs)
+      ∙ ap (λ (l : List Subscriber). all_go_on met index (λ k. members k l)) (sym (here subs i nobody low))
       ∙ inv
 
   pub source-no : r ≡ false → false ≡ whole
   source-no e = rw e at after-source
 
-  pub source-yes : r ≡ true → all_go_on met' index (owing 32 (at subs i).target (at subs i).address (λ k. members k (drop (i + 1) (take count subs)))) ≡ whole
+  pub source-yes : r ≡ true → all_go_on met' index (owing 32 (at subs i).target (at subs i).address (λ k. members k (drop (i + 1) subs))) ≡ whole
   source-yes e = rw e at after-source
 
 module _ (met met' : List ℕ) (index : List (List ℕ)) (r whole : Bool) (s : Subscriber) (rest : ℕ → List ℕ)

@@ -7,16 +7,15 @@ use Prim.Native.Nat.{ℕ, suc, ◌+◌, ◌-◌, ◌≤◌, ◌<◌}
 use native.Mathlib.Nat.{sub-zero}
 use native.Mathlib.Omega.{arith}
 use lib.Dec.{ltb}
-use lib.ListN.{length, get_or, set, take, drop, replicate, length-append, length-replicate, length-take, get_or-replicate, drop_of_length-le, replicate-append-replicate}
-use lib.Seq.{get_or_at, set_at, get_or-take, ext_get_or}
+use lib.ListN.{length, get_or, set, take, replicate, length-append, length-replicate, get_or-replicate, replicate-append-replicate}
+use lib.Seq.{get_or_at, set_at, ext_get_or}
 use borrow.Author.Tests.{lt-ltb, le-ltb, le-leb, lt-leb, ltb-true, ltb-false}
 use Rattle.typeset.proofs.Bools.{yes_or_no}
 use Rattle.lists.specs.Lists.{keep}
-use Rattle.lists.proofs.Places.{here, keep-le}
+use Rattle.lists.proofs.Places.{keep-le}
 use Rattle.lists.proofs.Members.{keep-ext}
 use Rattle.plan.specs.declared.Subscriber.{Subscriber}
 use Rattle.plan.specs.declared.Plan.{Plan}
-use Rattle.plan.specs.Parts.{nobody, at}
 use Rattle.plan.specs.Find.{used}
 use Rattle.index.specs.Index.{address_of, subscribers_to, row, list_of, tab, index_of}
 use Rattle.index.specs.Steps.{wants, members, touched, upon, with_one_more}
@@ -183,19 +182,6 @@ adding-end k r = refl
 
 pub remade : (k : ℕ) (l : List Subscriber) → length l ≤ 256 → added_all (members k l) (replicate 257 0) ≡ row (members k l)
 remade k l h = ap (added_all (members k l)) blank-row ∙ added-all (members k l) [] (omega (arith, members-le k l))
-
--- ---- in a plan
-
-module _ (subs : List Subscriber) (count i : ℕ) (long : length subs ≡ 256) (few : count ≤ 256) where
-  pub next : i < count → drop i (take count subs) ≡ at subs i ∷ drop (i + 1) (take count subs)
-  next h =
-      let in_list : i < length (take count subs) = rw (length-take count subs) (omega arith) in
-      here (take count subs) i nobody in_list ∙ ap (λ (s : Subscriber). s ∷ drop (i + 1) (take count subs)) (get_or-take count subs i nobody h)
-
-  pub none : count ≤ i → drop i (take count subs) ≡ []
-  none h =
-      let past : length (take count subs) ≤ i = rw (length-take count subs) (omega arith) in
-      drop_of_length-le (take count subs) past
 
 -- ---- the list of row k
 

@@ -1,6 +1,6 @@
 -- Any two results that a contract of this crate allows are equal, and so are any two contents of the lent index: read off the contracts themselves, as the functions in src/ state them.
 -- Assumes nothing.
-use mathlib.Core.Path.{◌≡◌, sym, ap₂, ◌∙◌}
+use mathlib.Core.Path.{◌≡◌, sym, ◌∙◌}
 use mathlib.Core.Bool.{Bool}
 use mathlib.Core.List.{List}
 use Prim.Native.Nat.{ℕ}
@@ -10,8 +10,8 @@ use denote.Triple.Clauses.{AtExit}
 use borrow.Fn.Kinds.{ended_of}
 use Rattle.plan.specs.declared.Plan.{Plan}
 use Rattle.plan.specs.declared.Region.{Region}
-use Rattle.index.specs.declared.Indexed.{Indexed}
-use Rattle.index.specs.declared.Updated.{Updated}
+use Rattle.std.specs.Prelude.{Result, ⊤}
+use Rattle.refusal.specs.declared.Refusal.{Refusal}
 use Rattle.index.proofs.build.Reads as build
 use Rattle.index.proofs.build.Kinds as build-kinds
 use Rattle.index.proofs.build_tested.Reads as build-tested
@@ -24,12 +24,12 @@ use Rattle.index.proofs.update.Kinds as update-kinds
 use Rattle.index.proofs.update_tested.Reads as update-tested
 use Rattle.index.proofs.update_tested.Kinds as update-tested-kinds
 
-pub build-exact : (κs : Lfts 1) (plan : Plan) (index : MutBor (List (List ℕ))) (end end' : AtExit (ended_of 1 build-kinds.ps build-kinds.r) κs) (r s : Indexed)
+pub build-exact : (κs : Lfts 1) (plan : Plan) (index : MutBor (List (List ℕ))) (end end' : AtExit (ended_of 1 build-kinds.ps build-kinds.r) κs) (r s : Result ⊤ Refusal)
     → build.Post κs (plan, (index, tt)) r end → build.Post κs (plan, (index, tt)) s end' → (r ≡ s) × (end.1.0.now ≡ end'.1.0.now)
 build-exact κs plan index end end' r s p q = (p.0 ∙ sym q.0, p.1 ∙ sym q.1)
 
 -- by a verdict on the plan
-pub build-tested-exact : (κs : Lfts 1) (kept : Bool) (plan : Plan) (index : MutBor (List (List ℕ))) (end end' : AtExit (ended_of 1 build-tested-kinds.ps build-tested-kinds.r) κs) (r s : Indexed)
+pub build-tested-exact : (κs : Lfts 1) (kept : Bool) (plan : Plan) (index : MutBor (List (List ℕ))) (end end' : AtExit (ended_of 1 build-tested-kinds.ps build-tested-kinds.r) κs) (r s : Result ⊤ Refusal)
     → build-tested.Post κs (kept, (plan, (index, tt))) r end → build-tested.Post κs (kept, (plan, (index, tt))) s end' → (r ≡ s) × (end.1.1.0.now ≡ end'.1.1.0.now)
 build-tested-exact κs kept plan index end end' r s p q = (p.0 ∙ sym q.0, p.1 ∙ sym q.1)
 
@@ -41,16 +41,13 @@ pub look-exact : (κs : Lfts 1) (index : Bor (List (List ℕ))) (region : Region
     → look.Post κs (index, (region, (type, tt))) r end → look.Post κs (index, (region, (type, tt))) s end' → r.now ≡ s.now
 look-exact κs index region type end end' r s p q = p ∙ sym (q)
 
-same-updated : (r s : Updated) → r.said ≡ s.said → r.plan ≡ s.plan → r ≡ s
-same-updated r s a b = ap₂ (λ (x : Indexed) (y : Plan). record { said = x; plan = y }) a b
-
-pub update-exact : (κs : Lfts 1) (plan : Plan) (index : MutBor (List (List ℕ))) (address source target : ℕ) (end end' : AtExit (ended_of 1 update-kinds.ps update-kinds.r) κs) (r s : Updated)
+pub update-exact : (κs : Lfts 1) (plan : Plan) (index : MutBor (List (List ℕ))) (address source target : ℕ) (end end' : AtExit (ended_of 1 update-kinds.ps update-kinds.r) κs) (r s : Result Plan Refusal)
     → update.Post κs (plan, (index, (address, (source, (target, tt))))) r end → update.Post κs (plan, (index, (address, (source, (target, tt))))) s end'
     → (r ≡ s) × (end.1.0.now ≡ end'.1.0.now)
-update-exact κs plan index address source target end end' r s p q = (same-updated r s (p.0 ∙ sym q.0) (p.1 ∙ sym q.1), p.2 ∙ sym q.2)
+update-exact κs plan index address source target end end' r s p q = (p.0 ∙ sym q.0, p.1 ∙ sym q.1)
 
 pub update-tested-exact : (κs : Lfts 1) (kept : Bool) (plan : Plan) (index : MutBor (List (List ℕ))) (address source target : ℕ) (end end' : AtExit (ended_of 1 update-tested-kinds.ps update-tested-kinds.r) κs)
-    (r s : Updated)
+    (r s : Result Plan Refusal)
     → update-tested.Post κs (kept, (plan, (index, (address, (source, (target, tt)))))) r end → update-tested.Post κs (kept, (plan, (index, (address, (source, (target, tt)))))) s end'
     → (r ≡ s) × (end.1.1.0.now ≡ end'.1.1.0.now)
-update-tested-exact κs kept plan index address source target end end' r s p q = (same-updated r s (p.0 ∙ sym q.0) (p.1 ∙ sym q.1), p.2 ∙ sym q.2)
+update-tested-exact κs kept plan index address source target end end' r s p q = (p.0 ∙ sym q.0, p.1 ∙ sym q.1)

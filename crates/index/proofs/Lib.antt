@@ -1,4 +1,3 @@
-pub mod Lowest
 pub mod Rows
 pub mod Built
 pub mod Beside

@@ -1,33 +1,30 @@
 -- What building and updating answer, and what they leave in the index: 23, 45, 46, 47 in that order; a refusal changes nothing. Assumes nothing.
-use Rattle.std.specs.Prelude.{ℕ, Bool, true, false, ◌&&◌, cond, List, [], eqb, get_or}
+use Rattle.std.specs.Prelude.{ℕ, Bool, true, false, ◌&&◌, cond, List, [], eqb, get_or, Option, Some, None, Result, Ok, Err, ⊤}
 use Rattle.typeset.specs.Sets.{has, every, within, implies, same}
+use Rattle.refusal.specs.declared.Refusal.{Refusal}
 use Rattle.refusal.specs.declared.Refusal.TheVariants.{RuleBroken, NotInPlan, SetsBreakRule, OtherIndex}
 use Rattle.plan.specs.declared.Region.TheVariants.{Source, Target}
 use Rattle.plan.specs.declared.Types.{Types}
 use Rattle.plan.specs.declared.Plan.{Plan}
-use Rattle.plan.specs.declared.Found.{Found}
-use Rattle.plan.specs.declared.Found.TheVariants.{At, Nothing}
 use Rattle.plan.specs.Parts.{choice}
 use Rattle.plan.specs.Sound.{sound}
 use Rattle.plan.specs.Find.{lookup}
-use Rattle.index.specs.declared.Indexed.{Indexed}
-use Rattle.index.specs.declared.Indexed.TheVariants.{Done, Refused}
 use Rattle.index.specs.Index.{row, list_of, index_of, changed}
 
-abbrev pub is_done : Indexed → Bool
-is_done Done = true
-is_done (Refused r) = false
+abbrev pub is_done : Result ⊤ Refusal → Bool
+is_done (Ok _) = true
+is_done (Err _) = false
 
 -- ---- building. `kept` says whether the plan is sound
 
-abbrev pub built_by : Bool → Indexed
-built_by true = Done
-built_by false = Refused (RuleBroken 0)
+abbrev pub built_by : Bool → Result ⊤ Refusal
+built_by true = Ok tt
+built_by false = Err (RuleBroken 0)
 
 abbrev pub left_by : Bool → Plan → List (List ℕ) → List (List ℕ)
 left_by kept p index = cond kept (index_of p) index
 
-unfoldable pub built : Plan → Indexed
+unfoldable pub built : Plan → Result ⊤ Refusal
 built p = built_by (sound p)
 
 -- the index afterwards
@@ -51,24 +48,24 @@ unfoldable pub matches : Plan → List (List ℕ) → Bool
 matches p index = every 64 (λ k. same_row (get_or index k []) (row (list_of p k)))
 
 -- by whether the new sets fit, and whether the index is the plan's
-abbrev pub said_sets : Bool → Bool → Indexed
-said_sets false m = Refused SetsBreakRule
-said_sets true false = Refused OtherIndex
-said_sets true true = Done
+abbrev pub said_sets : Bool → Bool → Result ⊤ Refusal
+said_sets false m = Err SetsBreakRule
+said_sets true false = Err OtherIndex
+said_sets true true = Ok tt
 
 -- by whether the plan is sound, and who has the address
-abbrev pub said_found : Bool → Found → Bool → Bool → Indexed
-said_found false f fit m = Refused (RuleBroken 0)
-said_found true Nothing fit m = Refused NotInPlan
-said_found true (At i) fit m = said_sets fit m
+abbrev pub said_found : Bool → Option ℕ → Bool → Bool → Result ⊤ Refusal
+said_found false f fit m = Err (RuleBroken 0)
+said_found true None fit m = Err NotInPlan
+said_found true (Some i) fit m = said_sets fit m
 
 -- a change of one subscriber's sets: whose, and the new ones
-unfoldable pub updated_by : Bool → Plan → ℕ → ℕ → ℕ → List (List ℕ) → Indexed
+unfoldable pub updated_by : Bool → Plan → ℕ → ℕ → ℕ → List (List ℕ) → Result ⊤ Refusal
 updated_by kept p a source target index = said_found kept (lookup p a) (sets_fit p.types source target) (matches p index)
 
-abbrev pub changed_at : Found → Plan → ℕ → ℕ → Plan
-changed_at Nothing p source target = p
-changed_at (At i) p source target = changed p i source target
+abbrev pub changed_at : Option ℕ → Plan → ℕ → ℕ → Plan
+changed_at None p source target = p
+changed_at (Some i) p source target = changed p i source target
 
 -- the plan afterwards
 unfoldable pub plan_by : Bool → Plan → ℕ → ℕ → ℕ → List (List ℕ) → Plan
@@ -79,7 +76,7 @@ unfoldable pub index_by : Bool → Plan → ℕ → ℕ → ℕ → List (List �
 index_by kept p a source target index =
     cond (is_done (updated_by kept p a source target index)) (index_of (changed_at (lookup p a) p source target)) index
 
-unfoldable pub updated : Plan → ℕ → ℕ → ℕ → List (List ℕ) → Indexed
+unfoldable pub updated : Plan → ℕ → ℕ → ℕ → List (List ℕ) → Result ⊤ Refusal
 updated p a source target index = updated_by (sound p) p a source target index
 
 unfoldable pub plan_after : Plan → ℕ → ℕ → ℕ → List (List ℕ) → Plan
@@ -87,3 +84,8 @@ plan_after p a source target index = plan_by (sound p) p a source target index
 
 unfoldable pub index_after : Plan → ℕ → ℕ → ℕ → List (List ℕ) → List (List ℕ)
 index_after p a source target index = index_by (sound p) p a source target index
+
+-- what updating answers: the plan afterwards, or the refusal
+abbrev pub said_with : Result ⊤ Refusal → Plan → Result Plan Refusal
+said_with (Ok _) p = Ok p
+said_with (Err r) p = Err r

@@ -1,30 +1,17 @@
 // Who subscribes to a box type: beside a plan an index, in lent memory. Rows 0 to 31 are the types in the source region, rows 32 to 63 the types in the target region. A row has the addresses that subscribe to the type
-// there, ascending, then 0 in every place that is left of 256, and in its last place how many they are.
+// there, ascending, then 0 in every place that is left of 256, and in its last place how many they are. C lends it so (`dfc_index_build`).
 #![tactic(auto)]
 
 ghost use Rattle.std.specs.Prelude.{◌≡◌, ◌&&◌, List, [], ℕ, ◌<◌, ◌≤◌, min, length, get_or, take, replicate};
 ghost use Rattle.lists.specs.Lists.{keep};
 ghost use Rattle.index.specs.Index.{row, tab, looked_up, row_or, resubscribed, changed};
-ghost use Rattle.index.specs.declared.Indexed.TheVariants.{Refused};
 ghost use Rattle.index.specs.Steps.{wants, members, upon, with_one_more, ends_at, all_go_on, owing, differing};
-ghost use Rattle.index.specs.Said.{sets_fit, matches, built_by, left_by, built, left, updated_by, plan_by, index_by, updated, plan_after, index_after};
+ghost use Rattle.index.specs.Said.{said_with, sets_fit, matches, built_by, left_by, built, left, updated_by, plan_by, index_by, updated, plan_after, index_after};
 
-use plan::{Found, Plan, Region, Subscriber, Types};
+use plan::{Plan, Region, Subscriber, Types};
 use refusal::Refusal;
-
-// What building and updating answer.
-#[derive(Clone, Copy)]
-pub enum Indexed {
-    Done,
-    Refused(Refusal),
-}
-
-// What a change of a subscriber's sets answers, with the plan afterwards: the changed one, or on a refusal the one that was given.
-#[derive(Clone, Copy)]
-pub struct Updated {
-    pub said: Indexed,
-    pub plan: Plan,
-}
+use std::cmp::min;
+use typeset::Members;
 
 // ---- building: one pass through the subscribers
 
@@ -32,10 +19,11 @@ pub struct Updated {
 fn used(count: u32) -> usize
     ensures { (result ≡ min count 256) × (result ≤ 256) }
 {
-    if count < 256 { count as usize } else { 256 }
+    min(count as usize, 256)
 }
 
 // One address more in a row.
+#[tactic(auto, unfolding(crate::specs::Steps::with_one_more))]
 fn add(row: &mut [u32; 257], address: u32)
     ensures { row.new ≡ with_one_more address row.old }
 {
@@ -46,48 +34,43 @@ fn add(row: &mut [u32; 257], address: u32)
     }
 }
 
-// One address more in the rows of the types of a set. A set and the number before it have all its types in common but the lowest: so the next turn need not wait for this one's type.
+// One address more in the rows of the types of a set. `first` is 0 or 32: the rows of a region go by number, as those of the index do.
 fn enter(index: &mut [[u32; 257]; 64], first: usize, types: u32, address: u32)
     requires { first ≤ 32 }
     ensures { index.new ≡ upon first types (λ k. with_one_more address) index.old }
 {
-    let mut left = types;
-    while left != 0 {
-        let t = typeset::lowest(left);
+    for t in Members::of(types) {
         add(&mut index[first + t as usize], address);
-        left = typeset::meet(left, left - 1);
     }
 }
 
-// Every row of the index of the first count subscribers.
-fn fill(subscribers: [Subscriber; 256], count: usize, index: &mut [[u32; 257]; 64])
-    requires { count ≤ 256 }
-    ensures { index.new ≡ tab 64 (λ k. row (members k (take count subscribers))) }
+// Every row of the index of some subscribers.
+fn fill(subscribers: &[Subscriber], index: &mut [[u32; 257]; 64])
+    requires { length subscribers.now ≤ 256 }
+    ensures { index.new ≡ tab 64 (λ k. row (members k subscribers.now)) }
 {
-    let blank = [0u32; 257];
-    *index = [blank; 64];
-    for i in 0usize..count {
-        let s = subscribers[i];
+    *index = [[0u32; 257]; 64];
+    for s in subscribers {
         enter(index, 0, s.source, s.address);
         enter(index, 32, s.target, s.address);
     }
 }
 
-// Building, after the test: `kept` says whether the plan is sound. Nothing else is taken on trust. It is public, since the archive is another crate; with `true` for an unsound plan 23 is not answered.
-pub fn build_tested(kept: bool, plan: Plan, index: &mut [[u32; 257]; 64]) -> Indexed
+// Building, after the test: `kept` says whether the plan is sound. Nothing else is taken on trust. It is public, since the archive is another crate, and README and DECISIONS ("A verdict that the caller has, again") name it; with `true` for an unsound plan 23 is not answered.
+pub fn build_tested(kept: bool, plan: Plan, index: &mut [[u32; 257]; 64]) -> Result<(), Refusal>
     ensures { (result ≡ built_by kept) × (index.new ≡ left_by kept plan index.old) }
 {
-    let subscribers = plan.subscribers;
-    let count = used(plan.count as u32);
-    if !kept {
-        return Indexed::Refused(Refusal::RuleBroken(0));
+    if kept {
+        let count = used(plan.count.into());
+        fill(&plan.subscribers[..count], index);
+        Ok(())
+    } else {
+        Err(Refusal::RuleBroken(0))
     }
-    fill(subscribers, count, index);
-    Indexed::Done
 }
 
 // Builds the index of any plan; 23, and nothing changed, for a plan that breaks a rule.
-pub fn build(plan: Plan, index: &mut [[u32; 257]; 64]) -> Indexed
+pub fn build(plan: Plan, index: &mut [[u32; 257]; 64]) -> Result<(), Refusal>
     ensures { (result ≡ built plan) × (index.new ≡ left plan index.old) }
 {
     let kept = soundness::sound(plan);
@@ -100,7 +83,7 @@ pub fn build(plan: Plan, index: &mut [[u32; 257]; 64]) -> Indexed
 fn part(row: &[u32], n: usize) -> &[u32]
     ensures { result.now ≡ take n row.now }
 {
-    if n < row.len() { &row[..n] } else { row }
+    &row[..min(n, row.len())]
 }
 
 // The row of a type in a region; row 0 for a type above 31, which has none.
@@ -141,21 +124,16 @@ fn sets_fit(types: Types, source: u32, target: u32) -> bool
         & (typeset::meet(types.reversible, source) == typeset::meet(types.reversible, target))
 }
 
-fn wide(n: u32) -> usize
-    ensures { result ≡ n }
-{
-    n as usize
-}
-
 // Whether the row has 0 from the place n on, and n in its last place. Every place is looked at, without a branch for each.
 fn ends_at(row: &[u32; 257], n: usize) -> bool
     ensures { result ≡ ends_at n row.now }
 {
+    let past = &row[min(n, 256)..256];
     let mut blank = true;
-    for j in n..256usize {
-        blank = blank & (row[j] == 0);
+    for place in past {
+        blank &= *place == 0;
     }
-    blank & (wide(row[256]) == n)
+    blank & (row[256] as usize == n)
 }
 
 // Whether the rows of the types of a set go on with the address, each from the place that it has been met up to.
@@ -170,9 +148,7 @@ fn goes_on(
     ensures { (length met.new ≡ 64)
         × ((rest : ℕ → List ℕ) → (result && all_go_on met.new index.now rest) ≡ all_go_on met.old index.now (owing first types address rest)) }
 {
-    let mut left = types;
-    while left != 0 {
-        let t = typeset::lowest(left);
+    for t in Members::of(types) {
         let k = first + t as usize;
         let n = met[k];
         if 256 <= n {
@@ -182,31 +158,23 @@ fn goes_on(
             return false;
         }
         met[k] = n + 1;
-        left = typeset::meet(left, left - 1);
     }
     true
 }
 
 // Whether each row ends where it has been met up to.
-fn all_end(index: &[[u32; 257]; 64], met: [usize; 64]) -> bool
-    ensures { result ≡ all_go_on met index.now (λ k. []) }
+fn all_end(index: &[[u32; 257]; 64], met: &[usize; 64]) -> bool
+    ensures { result ≡ all_go_on met.now index.now (λ k. []) }
 {
-    for k in 0usize..64usize {
-        if !ends_at(&index[k], met[k]) {
-            return false;
-        }
-    }
-    true
+    index.iter().zip(met).all(|(row, n)| ends_at(row, *n))
 }
 
-// Whether the index is that of the first count subscribers.
-fn matches(subscribers: [Subscriber; 256], count: usize, index: &[[u32; 257]; 64]) -> bool
-    requires { count ≤ 256 }
-    ensures { (result ≡ all_go_on (replicate 64 0) index.now (λ k. members k (take count subscribers))) × (length subscribers ≡ 256) }
+// Whether the index is that of some subscribers.
+fn matches(subscribers: &[Subscriber], index: &[[u32; 257]; 64]) -> bool
+    ensures { result ≡ all_go_on (replicate 64 0) index.now (λ k. members k subscribers.now) }
 {
     let mut met = [0usize; 64];
-    for i in 0usize..count {
-        let s = subscribers[i];
+    for s in subscribers {
         if !goes_on(index, &mut met, 0, s.source, s.address) {
             return false;
         }
@@ -214,10 +182,11 @@ fn matches(subscribers: [Subscriber; 256], count: usize, index: &[[u32; 257]; 64
             return false;
         }
     }
-    all_end(index, met)
+    all_end(index, &met)
 }
 
 // The types that are in one of two sets only.
+#[tactic(auto, unfolding(crate::specs::Steps::differing))]
 fn differing(a: u32, b: u32) -> u32
     ensures { result ≡ differing a b }
 {
@@ -225,6 +194,7 @@ fn differing(a: u32, b: u32) -> u32
 }
 
 // Whether the subscriber is in row k.
+#[tactic(auto, unfolding(crate::specs::Steps::wants))]
 fn wants(k: usize, s: Subscriber) -> bool
     requires { k < 64 }
     ensures { result ≡ wants k s }
@@ -236,41 +206,32 @@ fn wants(k: usize, s: Subscriber) -> bool
     }
 }
 
-// Row k of the first count subscribers, made anew.
-fn remake(list: &mut [u32; 257], subscribers: [Subscriber; 256], count: usize, k: usize)
-    requires { (count ≤ 256) × (k < 64) }
-    ensures { list.new ≡ row (members k (take count subscribers)) }
+// Row k of some subscribers, made anew.
+fn remake(list: &mut [u32; 257], subscribers: &[Subscriber], k: usize)
+    requires { (length subscribers.now ≤ 256) × (k < 64) }
+    ensures { list.new ≡ row (members k subscribers.now) }
 {
     *list = [0u32; 257];
-    for i in 0usize..count {
-        let s = subscribers[i];
-        if wants(k, s) {
+    for s in subscribers {
+        if wants(k, *s) {
             add(list, s.address);
         }
     }
 }
 
 // The rows of the types of a set made anew; no other is stored into.
-fn renew(
-    index: &mut [[u32; 257]; 64],
-    first: usize,
-    types: u32,
-    subscribers: [Subscriber; 256],
-    count: usize,
-)
-    requires { (first ≤ 32) × (count ≤ 256) }
-    ensures { index.new ≡ upon first types (λ k l. row (members k (take count subscribers))) index.old }
+fn renew(index: &mut [[u32; 257]; 64], first: usize, types: u32, subscribers: &[Subscriber])
+    requires { (first ≤ 32) × (length subscribers.now ≤ 256) }
+    ensures { index.new ≡ upon first types (λ k l. row (members k subscribers.now)) index.old }
 {
-    let mut left = types;
-    while left != 0 {
-        let t = typeset::lowest(left);
+    for t in Members::of(types) {
         let k = first + t as usize;
-        remake(&mut index[k], subscribers, count, k);
-        left = typeset::meet(left, left - 1);
+        remake(&mut index[k], subscribers, k);
     }
 }
 
 // The plan with other sets of the subscriber at place i.
+#[tactic(auto, unfolding(crate::specs::Index::changed))]
 fn changed(plan: Plan, i: usize, source: u32, target: u32) -> Plan
     requires { i < 256 }
     ensures { result ≡ changed plan i source target }
@@ -284,29 +245,19 @@ fn changed(plan: Plan, i: usize, source: u32, target: u32) -> Plan
 }
 
 // 64 rows have 257 places each: it only shows that; compiled, nothing is left of it.
-fn long(row: [u32; 257])
-    ensures { length row ≡ 257 }
+fn long(row: &[u32; 257])
+    ensures { length row.now ≡ 257 }
 {}
 
-fn shaped(rows: [[u32; 257]; 64])
-    ensures { (length rows ≡ 64) × ((k : ℕ) → k < 64 → length (get_or rows k []) ≡ 257) }
+fn shaped(rows: &[[u32; 257]; 64])
+    ensures { (k : ℕ) → k < 64 → length (get_or rows.now k []) ≡ 257 }
 {
-    for k in 0usize..64usize {
-        let row = rows[k];
+    for row in rows {
         long(row);
     }
 }
 
-fn refused(r: Refusal, plan: Plan) -> Updated
-    ensures { (result.said ≡ Refused r) × (result.plan ≡ plan) }
-{
-    Updated {
-        said: Indexed::Refused(r),
-        plan,
-    }
-}
-
-// Updating, after the test: `kept` says whether the plan is sound. Nothing else is taken on trust. It is public, since the archive is another crate; with `true` for an unsound plan 23 is not answered.
+// Updating, after the test: `kept` says whether the plan is sound. Nothing else is taken on trust. It is public, since the archive is another crate, and README and DECISIONS ("A verdict that the caller has, again") name it; with `true` for an unsound plan 23 is not answered.
 pub fn update_tested(
     kept: bool,
     plan: Plan,
@@ -314,48 +265,41 @@ pub fn update_tested(
     address: u32,
     source: u32,
     target: u32,
-) -> Updated
-    ensures { (result.said ≡ updated_by kept plan address source target index.old)
-        × (result.plan ≡ plan_by kept plan address source target index.old)
+) -> Result<Plan, Refusal>
+    ensures { (result ≡ said_with (updated_by kept plan address source target index.old) (plan_by kept plan address source target index.old))
         × (index.new ≡ index_by kept plan address source target index.old) }
 {
-    let types = plan.types;
-    let subscribers = plan.subscribers;
-    let count = used(plan.count as u32);
     if !kept {
-        return refused(Refusal::RuleBroken(0), plan);
+        return Err(Refusal::RuleBroken(0));
     }
-    let Found::At(i) = plan::find(plan, address) else {
-        return refused(Refusal::NotInPlan, plan);
+    let Some(i) = plan::find(plan, address) else {
+        return Err(Refusal::NotInPlan);
     };
-    if !sets_fit(types, source, target) {
-        return refused(Refusal::SetsBreakRule, plan);
+    if !sets_fit(plan.types, source, target) {
+        return Err(Refusal::SetsBreakRule);
     }
-    shaped(*index);
-    if !matches(subscribers, count, index) {
-        return refused(Refusal::OtherIndex, plan);
+    shaped(index);
+    let count = used(plan.count.into());
+    if !matches(&plan.subscribers[..count], index) {
+        return Err(Refusal::OtherIndex);
     }
-    let old = subscribers[i];
+    let old = plan.subscribers[i];
     let q = changed(plan, i, source, target);
-    let after = q.subscribers;
-    renew(index, 0, differing(old.source, source), after, count);
-    renew(index, 32, differing(old.target, target), after, count);
-    Updated {
-        said: Indexed::Done,
-        plan: q,
-    }
+    let after = &q.subscribers[..count];
+    renew(index, 0, differing(old.source, source), after);
+    renew(index, 32, differing(old.target, target), after);
+    Ok(q)
 }
 
-// Gives the subscriber of an address other sets, in the plan that comes back and in the lent index.
+// Gives the subscriber of an address other sets, in the plan that comes back and in the lent index. On a refusal the caller still has the plan that it gave.
 pub fn update(
     plan: Plan,
     index: &mut [[u32; 257]; 64],
     address: u32,
     source: u32,
     target: u32,
-) -> Updated
-    ensures { (result.said ≡ updated plan address source target index.old)
-        × (result.plan ≡ plan_after plan address source target index.old)
+) -> Result<Plan, Refusal>
+    ensures { (result ≡ said_with (updated plan address source target index.old) (plan_after plan address source target index.old))
         × (index.new ≡ index_after plan address source target index.old) }
 {
     let kept = soundness::sound(plan);

@@ -1,4 +1,5 @@
 -- A feature box that a call has reached may send on what it received: nothing refuses it. So a journey is made of public operations that are all accepted. Assumes nothing.
+use Rattle.std.specs.Prelude.{Option, Some, None, Ok}
 use mathlib.Core.Path.{◌≡◌, refl, sym, ap, ◌∙◌}
 use mathlib.Core.Logic.{◌⊎◌, inl, inr, ⊎_elim}
 use mathlib.Core.Bool.{true, false, false≢true}
@@ -15,8 +16,6 @@ use Rattle.typeset.proofs.Below.{least-has}
 use Rattle.plan.specs.declared.Region.{Region}
 use Rattle.plan.specs.declared.Region.TheVariants.{Source, Target}
 use Rattle.plan.specs.declared.Plan.{Plan}
-use Rattle.plan.specs.declared.Found.{Found}
-use Rattle.plan.specs.declared.Found.TheVariants.{At, Nothing}
 use Rattle.plan.specs.Parts.{legal}
 use Rattle.plan.specs.Sound.{sound}
 use Rattle.plan.specs.Find.{lookup}
@@ -26,10 +25,10 @@ use Rattle.zone.proofs.Members.{elem}
 use Rattle.zone.proofs.PlanZones.{zone-nobody, zone-types, chosen}
 use Rattle.setup.specs.declared.Setup.{Setup}
 use Rattle.setup.specs.Dialling.{legal_string}
-use Rattle.setup.specs.Setups.{routing_address, list_of, well_formed}
+use Rattle.zone.specs.Order.{list_of}
+use Rattle.setup.specs.Setups.{routing_address, well_formed}
 use Rattle.making.specs.declared.Maker.TheVariants.{Feature as FeatureMaker}
 use Rattle.making.specs.declared.Maker.{Maker}
-use Rattle.making.specs.declared.Outcome.TheVariants.{Made}
 use Rattle.making.specs.Making.{is_list, not_own, somebody, continued_outcome, continued_outcome_by}
 use Rattle.making.proofs.Outcomes.{Continued}
 use Rattle.making.proofs.WellFormed.{continued-well-formed}
@@ -103,15 +102,15 @@ reached p out t a w e =
 
 -- ---- it is in the plan, and its type exists
 
-somebody-there : (p : Plan) (r : Region) (t a : ℕ) (f : Found) → lookup p a ≡ f → stands t (zone_at p r a) ≡ true → somebody f ≡ true
-somebody-there p r t a (At i) e s = refl
-somebody-there p r t a Nothing e s = absurd (false≢true (sym (stands-nowhere t) ∙ rw (zone-nobody p r a e) at s))
+somebody-there : (p : Plan) (r : Region) (t a : ℕ) (f : (Option ℕ)) → lookup p a ≡ f → stands t (zone_at p r a) ≡ true → somebody f ≡ true
+somebody-there p r t a (Some i) e s = refl
+somebody-there p r t a None e s = absurd (false≢true (sym (stands-nowhere t) ∙ rw (zone-nobody p r a e) at s))
 
-type-there : (p : Plan) → sound p ≡ true → (r : Region) (t a : ℕ) (f : Found) → lookup p a ≡ f → stands t (zone_at p r a) ≡ true → has t p.types.existing ≡ true
-type-there p 𝓢 r t a (At i) e s =
+type-there : (p : Plan) → sound p ≡ true → (r : Region) (t a : ℕ) (f : (Option ℕ)) → lookup p a ≡ f → stands t (zone_at p r a) ≡ true → has t p.types.existing ≡ true
+type-there p 𝓢 r t a (Some i) e s =
     let there = stands-elem t (zone_at p r a) s in
     chosen-exists p 𝓢 r t (zone-types p r a t there) (chosen p 𝓢 a i e r t there)
-type-there p 𝓢 r t a Nothing e s = absurd (false≢true (sym (stands-nowhere t) ∙ rw (zone-nobody p r a e) at s))
+type-there p 𝓢 r t a None e s = absurd (false≢true (sym (stands-nowhere t) ∙ rw (zone-nobody p r a e) at s))
 
 no-argument : (r : Region) (a : ℕ) → not_own r a 0 0 ≡ true
 unfolding not_own
@@ -121,13 +120,13 @@ no-argument Target a = refl
 -- ---- so it may send on what it received
 
 made_of : (p : Plan) (m : Maker) (s : Setup) (sourceArg : ℕ) (string : List ℕ) (targetArg : ℕ) → Continued (sound p) p m s sourceArg string targetArg
-    → continued_outcome p m s sourceArg string targetArg ≡ Made
+    → continued_outcome p m s sourceArg string targetArg ≡ Ok tt
 unfolding continued_outcome_by
 made_of p m s sourceArg string targetArg k =
     rw (k.kept, k.exists, k.may-make, k.held-here, k.from_list, k.routed-here, k.string-legal, k.another, k.both-legal)
 
 pub passes_on : (p : Plan) (out : Setup) (t a : ℕ) → sound p ≡ true → well_formed p out ≡ true → callee_of p out ≡ Feature t a
-    → continued_outcome p (FeatureMaker t a) (received_of p out) 0 [] 0 ≡ Made
+    → continued_outcome p (FeatureMaker t a) (received_of p out) 0 [] 0 ≡ Ok tt
 unfolding legal_string legal every
 passes_on p out t a 𝓢 w e =
     let at = reached p out t a w e in

@@ -1,5 +1,6 @@
 -- The desk's line taken apart. Assumes nothing.
-use mathlib.Core.Path.{◌≡◌, refl, sym, ap, ◌∙◌}
+use Rattle.std.specs.Prelude.{Option, Some, None, Result, Ok, Err, IfOk, ⊤}
+use mathlib.Core.Path.{◌≡◌, refl, sym, ap}
 use mathlib.Core.Bool.{Bool, true, false, false≢true}
 use mathlib.Core.Logic.{⊎_elim}
 use mathlib.Core.List.{List, [], ◌∷◌, ◌++◌}
@@ -15,13 +16,9 @@ use Rattle.plan.specs.declared.Plan.{Plan}
 use Rattle.plan.specs.Sound.{sound}
 use Rattle.setup.specs.declared.Setup.{Setup}
 use Rattle.setup.specs.Setups.{well_formed}
-use Rattle.embedded.specs.declared.Dials.{Dials}
-use Rattle.embedded.specs.declared.Dials.TheVariants.{Nobody, Address}
 use Rattle.embedded.specs.Embedded.{dialled, writes_address, number_from}
 use Rattle.making.specs.declared.Maker.{Maker}
 use Rattle.making.specs.declared.Maker.TheVariants.{Line}
-use Rattle.making.specs.declared.Outcome.{Outcome}
-use Rattle.making.specs.declared.Outcome.TheVariants.{Made, Refused}
 use Rattle.making.specs.Making.{box_address, new_setup, new_outcome, answered, new_answer}
 use Rattle.making.proofs.Outcomes.{new-made}
 use Rattle.making.proofs.WellFormed.{new-well-formed}
@@ -33,24 +30,25 @@ use Rattle.routing.specs.Interface.{address_of}
 use Rattle.routing.specs.Steps.{callee_of, received_of}
 use Rattle.journey.specs.Hops.{Hop, passed_on, onward, hops, journey}
 use Rattle.journey.specs.Listing.{head_line, line, lines, listing}
-use Rattle.journey.specs.Desk.{space_in, address_text, string_text, readable, refused_text, told_of, told, desk_text}
+use Rattle.journey.specs.Desk.{space_in, address_text, string_text, readable, refused_text, told, desk_text}
 use Rattle.journey.proofs.Trips.{line-short}
+use Rattle.refusal.specs.declared.Refusal.{Refusal}
 
 -- ---- the address
 
-abbrev somebody : Dials → Bool
-somebody Nobody = false
-somebody (Address a) = true
+abbrev somebody : Option ℕ → Bool
+somebody None = false
+somebody (Some a) = true
 
-abbrev whom : Dials → ℕ
-whom Nobody = 0
-whom (Address a) = a
+abbrev whom : Option ℕ → ℕ
+whom None = 0
+whom (Some a) = a
 
-pub nobody-writes : (b : Bool) (n : ℕ) → dialled b n ≡ Nobody → b ≡ false
+pub nobody-writes : (b : Bool) (n : ℕ) → dialled b n ≡ None → b ≡ false
 nobody-writes true n e = absurd (false≢true (sym (ap somebody e)))
 nobody-writes false n e = refl
 
-pub somebody-writes : (b : Bool) (n a : ℕ) → dialled b n ≡ Address a → (b ≡ true) × (n ≡ a)
+pub somebody-writes : (b : Bool) (n a : ℕ) → dialled b n ≡ Some a → (b ≡ true) × (n ≡ a)
 somebody-writes true n a e = (refl, ap whom e)
 somebody-writes false n a e = absurd (false≢true (ap somebody e))
 
@@ -75,17 +73,12 @@ line_read p l h e = rw (lt-ltb (space_in l) (length l) h, e)
 
 -- ---- a setup that was made can be followed
 
-outcome-said : (o : Outcome) (s : Setup) → (answered o s).outcome ≡ o
-unfolding answered
-outcome-said Made s = refl
-outcome-said (Refused r) s = refl
-
-pub new-fine : (p : Plan) (m : Maker) (string : List ℕ) (target : ℕ) → (new_answer p m string target).outcome ≡ Made
-    → (sound p ≡ true) × (well_formed p (new_answer p m string target).setup ≡ true)
-unfolding answered
-new-fine p m string target e =
-    let made : new_outcome p m string target ≡ Made = sym (outcome-said (new_outcome p m string target) (new_setup (box_address m) string target)) ∙ e in
-    ((new-made p m string target made).kept, rw made (new-well-formed p m string target made))
+pub new-fine : (p : Plan) (m : Maker) (string : List ℕ) (target : ℕ) → IfOk (new_answer p m string target) (λ s. (sound p ≡ true) × (well_formed p s ≡ true))
+new-fine p m string target = by (new_outcome p m string target) refl
+  where
+    by : (o : Result ⊤ Refusal) → new_outcome p m string target ≡ o → IfOk (answered o (new_setup (box_address m) string target)) (λ s. (sound p ≡ true) × (well_formed p s ≡ true))
+    by (Ok _) e = ((new-made p m string target e).kept, new-well-formed p m string target e)
+    by (Err r) e = tt
 
 -- ---- how long a text is
 
@@ -118,15 +111,15 @@ refused-short n =
     let word : List ℕ = 114 ∷ 101 ∷ 102 ∷ 117 ∷ 115 ∷ 101 ∷ 100 ∷ 32 ∷ [] in
     omega (arith, length-append (word ++ decimal n) (10 ∷ []), length-append word (decimal n), (decimal-some n).1)
 
-told-short : (p : Plan) (o : Outcome) (s : Setup) → length (told_of p o s) ≤ 4096
-told-short p Made s = listing-short p s
-told-short p (Refused r) s = refused-short (number_of r)
+told-short : (p : Plan) (a : Result Setup Refusal) → length (told p a) ≤ 4096
+told-short p (Ok s) = listing-short p s
+told-short p (Err r) = refused-short (number_of r)
 
 -- 4096 bytes are room enough
 pub desk-fits : (p : Plan) (l : List ℕ) → length (desk_text p l) ≤ 4096
-unfolding desk_text told
+unfolding desk_text
 desk-fits p l =
     ⊎_elim
-    (λ (e : readable l ≡ true). rw e (told-short p (new_answer p (Line (number_from 0 (address_text l))) (string_text l) 0).outcome (new_answer p (Line (number_from 0 (address_text l))) (string_text l) 0).setup))
+    (λ (e : readable l ≡ true). rw e (told-short p (new_answer p (Line (number_from 0 (address_text l))) (string_text l) 0)))
     (λ (e : readable l ≡ false). rw e (refused-short 3))
     (yes_or_no (readable l))

@@ -1,4 +1,5 @@
 -- The journey of a setup visits the source zone, then the target zone, then one interface or error box. Assumes nothing.
+use Rattle.std.specs.Prelude.{Option, None}
 use mathlib.Core.Path.{◌≡◌, refl, sym, ap, ◌∙◌}
 use mathlib.Core.Logic.{⊎_elim}
 use mathlib.Core.Bool.{true, false, cond, false≢true}
@@ -16,9 +17,6 @@ use Rattle.zone.specs.Order.{held}
 use Rattle.zone.specs.Answer.{zone_at}
 use Rattle.zone.proofs.PlanZones.{zone-short}
 use Rattle.setup.specs.declared.Route.TheVariants.{Whole, Listed}
-use Rattle.setup.specs.declared.Placing.TheVariants.{NoPlacing}
-use Rattle.setup.specs.declared.Outer.{Outer}
-use Rattle.setup.specs.declared.Outer.TheVariants.{NoOuter}
 use Rattle.setup.specs.declared.Setup.{Setup}
 use Rattle.setup.specs.Dialling.{dialled, string_of}
 use Rattle.setup.specs.Setups.{routing}
@@ -43,12 +41,12 @@ sent r source target string l = record {
   target = target;
   route = Listed;
   list = held l;
-  placing = NoPlacing;
-  outer = NoOuter;
+  placing = None;
+  outer = None;
 }
 
 -- a box at the routing address that changes nothing
-sends-on : (r : Region) (out : Setup) (target : ℕ) (outer : Outer) (l : List ℕ)
+sends-on : (r : Region) (out : Setup) (target : ℕ) (outer : (Option ℕ)) (l : List ℕ)
     → passed_on (routing r out.source target) (received4 out target r outer l) ≡ sent r out.source target (string_of out.dialled) (tail l)
 unfolding passed_on continued_setup further received4
 sends-on Source out target outer l = rw (string-of-dialled (string_of out.dialled), held-is (tail l))

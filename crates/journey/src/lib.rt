@@ -1,27 +1,26 @@
 // The journey of a setup when no box changes anything, and the desk's listing of it.
 #![tactic(auto)]
 
-ghost use Rattle.std.specs.Prelude.{◌≡◌, List, [], ◌∷◌, ◌++◌, true, ◌+◌, ◌≤◌, length};
+ghost use Rattle.std.specs.Prelude.{◌≡◌, List, [], ◌∷◌, ◌++◌, true, ◌+◌, ◌≤◌, length, Ok, IfOk};
 ghost use Rattle.std.proofs.lemmas.List.Edits.{sets};
 ghost use Rattle.plan.specs.Sound.{sound};
+ghost use Rattle.refusal.specs.Numbers.{number_of};
 ghost use Rattle.setup.specs.Setups.{well_formed};
 ghost use Rattle.text.specs.Decimal.{decimal};
-ghost use Rattle.routing.specs.declared.Later.TheVariants.{Nothing};
-ghost use Rattle.routing.specs.Interface.{is_feature, address_of};
+ghost use Rattle.routing.specs.Interface.{address_of};
 ghost use Rattle.routing.specs.Routing.{answer};
 ghost use Rattle.journey.specs.Hops.{journey};
 ghost use Rattle.journey.specs.Listing.{kind_word, number_in, head_line, spaced, line, lines, listing};
-ghost use Rattle.making.specs.declared.Outcome.TheVariants.{Made};
 ghost use Rattle.journey.specs.Desk.{space_in, refused_text, told, desk_text};
-ghost use Rattle.journey.specs.Trips.{callee_in, sent_on, hopped, hop_text};
+ghost use Rattle.journey.specs.Trips.{sent_on, hopped, hop_text};
 
-use embedded::Dials;
 use making::Maker;
 use plan::Plan;
-use routing::{Answer, Callee, Outcome};
+use refusal::Refusal;
+use routing::{Callee, Routed};
 use setup::Setup;
 
-// ---- text in a lent room: each of these says where the next one begins
+// ---- text in a lent room: each of these says where the next one begins. Room and place go apart, and no `Display`: the promise says each byte of the lent room, past its end too.
 
 // Stores bytes.
 fn put_bytes(bytes: &[u8], at: usize, room: &mut [u8]) -> usize
@@ -37,10 +36,7 @@ fn put_number(n: u32, at: usize, room: &mut [u8]) -> usize
     requires { at ≤ 100000 }
     ensures { (result ≡ at + length (decimal n)) × (room.new ≡ sets room.old at (decimal n)) }
 {
-    let digits = text::decimal(n);
-    let bytes = digits.bytes;
-    let end = digits.len as usize;
-    put_bytes(&bytes[..end], at, room)
+    put_bytes(text::decimal(n).as_slice(), at, room)
 }
 
 // Stores a number and a space.
@@ -71,10 +67,8 @@ fn number_in(callee: Callee) -> u32
     ensures { result ≡ number_in callee }
 {
     match callee {
-        Callee::Feature(t, _) => t as u32,
-        Callee::Line(n, _) => n as u32,
-        Callee::Trunk(n, _) => n as u32,
-        Callee::Resource(n, _) => n as u32,
+        Callee::Feature(t, _) => t.into(),
+        Callee::Line(n, _) | Callee::Trunk(n, _) | Callee::Resource(n, _) => n.into(),
         Callee::Error(_) => 0,
     }
 }
@@ -83,11 +77,11 @@ fn address_of(callee: Callee) -> u32
     ensures { result ≡ address_of callee }
 {
     match callee {
-        Callee::Feature(_, a) => a,
-        Callee::Line(_, a) => a,
-        Callee::Trunk(_, a) => a,
-        Callee::Resource(_, a) => a,
-        Callee::Error(a) => a,
+        Callee::Feature(_, a)
+        | Callee::Line(_, a)
+        | Callee::Trunk(_, a)
+        | Callee::Resource(_, a)
+        | Callee::Error(a) => a,
     }
 }
 
@@ -107,58 +101,31 @@ fn put_line(hop: u32, callee: Callee, left: u32, at: usize, room: &mut [u8]) -> 
 // ---- the journey
 
 // What routing answers, with lists of its own.
-fn routed(plan: Plan, s: Setup) -> Answer
-    ensures { result ≡ answer plan s Nothing 32 32 }
+fn routed(plan: Plan, s: Setup) -> Result<Routed, Refusal>
+    ensures { result ≡ answer plan s (Ok tt) 32 32 }
 {
     let mut source_list = [0u8; 32];
     let mut target_list = [0u8; 32];
     routing::route(plan, s, &mut source_list, &mut target_list)
 }
 
-// The callee box; a refusal, which no journey meets, counts as the error box.
-fn callee_in(outcome: Outcome) -> Callee
-    ensures { result ≡ callee_in outcome }
-{
-    match outcome {
-        Outcome::Routed(c) => c,
-        Outcome::Refused(_) => Callee::Error(0),
-    }
-}
-
-fn is_feature(callee: Callee) -> bool
-    ensures { result ≡ is_feature callee }
-{
-    match callee {
-        Callee::Feature(_, _) => true,
-        Callee::Line(_, _) => false,
-        Callee::Trunk(_, _) => false,
-        Callee::Resource(_, _) => false,
-        Callee::Error(_) => false,
-    }
-}
-
-// What a box sends on when it changes nothing; a box that is no feature box sends nothing, and what stands here is not used.
-fn sent_on(plan: Plan, callee: Callee, received: Setup) -> Setup
+// What a box sends on when it changes nothing; a box that is no feature box sends nothing.
+fn sent_on(plan: Plan, callee: Callee, received: Setup) -> Option<Setup>
     ensures { result ≡ sent_on plan callee received }
 {
     match callee {
         Callee::Feature(t, a) => {
-            let answer = making::continued_setup(plan, Maker::Feature(t, a), received, 0, b"", 0);
-            answer.setup
+            making::continued_setup(plan, Maker::Feature(t, a), received, 0, b"", 0).ok()
         }
-        Callee::Line(_, _) => received,
-        Callee::Trunk(_, _) => received,
-        Callee::Resource(_, _) => received,
-        Callee::Error(_) => received,
+        _ => None,
     }
 }
 
-// A journey on its way: the setup that is routed next, where the next line begins, and whether there is one.
+// A journey on its way: the setup that is routed next, if there is one, and where the next line begins.
 #[derive(Clone, Copy)]
 struct Trip {
-    setup: Setup,
+    next: Option<Setup>,
     at: usize,
-    going: bool,
 }
 
 // One hop, with its line.
@@ -166,36 +133,32 @@ fn one_hop(plan: Plan, trip: Trip, hop: u32, room: &mut [u8]) -> Trip
     requires { trip.at ≤ 10000 }
     ensures { (result ≡ hopped plan trip hop) × (room.new ≡ sets room.old trip.at (hop_text plan trip hop)) }
 {
-    let setup = trip.setup;
-    if !trip.going {
+    let Some(setup) = trip.next else {
         return trip;
-    }
-    let answer = routed(plan, setup);
-    let outcome = answer.outcome;
-    let received = answer.setup;
-    let callee = callee_in(outcome);
-    let next = put_line(hop, callee, answer.left as u32, trip.at, room);
-    Trip {
-        setup: sent_on(plan, callee, received),
-        at: next,
-        going: is_feature(callee),
+    };
+    match routed(plan, setup) {
+        Ok(r) => Trip {
+            next: sent_on(plan, r.callee, r.setup),
+            at: put_line(hop, r.callee, r.left.into(), trip.at, room),
+        },
+        Err(_) => Trip {
+            next: None,
+            at: trip.at,
+        },
     }
 }
 
-// The lines of a journey.
+// The lines of a journey. (What is asked stays one clause, here and in the two below: both facts are of one setup.)
 fn put_hops(plan: Plan, first: Setup, at: usize, room: &mut [u8]) -> usize
     requires { (sound plan ≡ true) × (well_formed plan first ≡ true) × (at ≤ 100) }
     ensures { (result ≡ at + length (lines 1 (journey plan first))) × (room.new ≡ sets room.old at (lines 1 (journey plan first))) }
 {
     let mut trip = Trip {
-        setup: first,
+        next: Some(first),
         at,
-        going: true,
     };
-    let mut hop: u32 = 1;
-    while hop < 66 {
+    for hop in 1u32..66 {
         trip = one_hop(plan, trip, hop, room);
-        hop += 1;
     }
     trip.at
 }
@@ -211,24 +174,22 @@ fn put_listing(plan: Plan, first: Setup, room: &mut [u8]) -> usize
 
 // ---- the desk
 
-fn put_refused(number: u32, room: &mut [u8]) -> usize
-    ensures { (result ≡ length (refused_text number)) × (room.new ≡ sets room.old 0 (refused_text number)) }
+fn put_refused(refusal: Refusal, room: &mut [u8]) -> usize
+    ensures { (result ≡ length (refused_text (number_of refusal))) × (room.new ≡ sets room.old 0 (refused_text (number_of refusal))) }
 {
     let next = put_bytes(b"refused ", 0, room);
-    let end = put_number(number, next, room);
+    let end = put_number(refusal.number().into(), next, room);
     put_bytes(b"\n", end, room)
 }
 
 // The listing of a setup that was made, or the refusal.
-fn put_told(plan: Plan, answer: making::Answer, room: &mut [u8]) -> usize
-    requires { answer.outcome ≡ Made → (sound plan ≡ true) × (well_formed plan answer.setup ≡ true) }
+fn put_told(plan: Plan, answer: Result<Setup, Refusal>, room: &mut [u8]) -> usize
+    requires { IfOk answer (λ s. (sound plan ≡ true) × (well_formed plan s ≡ true)) }
     ensures { (result ≡ length (told plan answer)) × (room.new ≡ sets room.old 0 (told plan answer)) }
 {
-    let outcome = answer.outcome;
-    let first = answer.setup;
-    match outcome {
-        making::Outcome::Made => put_listing(plan, first, room),
-        making::Outcome::Refused(r) => put_refused(r.number() as u32, room),
+    match answer {
+        Ok(first) => put_listing(plan, first, room),
+        Err(r) => put_refused(r, room),
     }
 }
 
@@ -236,14 +197,7 @@ fn put_told(plan: Plan, answer: making::Answer, room: &mut [u8]) -> usize
 fn space_in(line: &[u8]) -> usize
     ensures { result ≡ space_in line.now }
 {
-    let mut i: usize = 0;
-    while i < line.len() {
-        if line[i] == 32 {
-            return i;
-        }
-        i += 1;
-    }
-    i
+    line.iter().position(|c| *c == b' ').unwrap_or(line.len())
 }
 
 // What the desk answers to any line under any plan, stored from the first place of a lent room as far as it fits; and how long it is.
@@ -252,17 +206,14 @@ pub fn desk(plan: Plan, line: &[u8], room: &mut [u8]) -> usize
 {
     let space = space_in(line);
     if line.len() <= space {
-        return put_refused(3, room);
+        return put_refused(Refusal::WrongAddress, room);
     }
     match embedded::written(&line[..space]) {
-        Dials::Nobody => put_refused(3, room),
-        Dials::Address(a) => {
+        None => put_refused(Refusal::WrongAddress, room),
+        Some(a) => {
             let string = &line[space + 1..];
-            put_told(
-                plan,
-                making::new_setup(plan, Maker::Line(a), string, 0),
-                room,
-            )
+            let made = making::new_setup(plan, Maker::Line(a), string, 0);
+            put_told(plan, made, room)
         }
     }
 }

@@ -13,7 +13,7 @@ use Rattle.lists.specs.Lists.{elem, keep}
 use Rattle.lists.proofs.Places.{keep-le}
 use Rattle.refusal.specs.declared.Refusal.TheVariants.{NotLinks}
 use Rattle.links.specs.declared.Termination.{Termination}
-use Rattle.links.specs.declared.Outcome.TheVariants.{Refused}
+use Rattle.std.specs.Prelude.{Err}
 use Rattle.links.specs.Links.{termination_number, link, apart, touches}
 use Rattle.links.specs.Sets.{blank, formed_from, insert, added, removed, dropped, sources, links, formed}
 use Rattle.links.specs.Said.{is_done, room_for, add_said, add_after, remove_after, drop_after}
@@ -142,7 +142,7 @@ junk-after m (add sink source) f = rw f
 junk-after m (remove sink source) f = rw f
 junk-after m (drop_port port) f = rw f
 
-junk-answer : (m : List ℕ) (a : Asked) → formed m ≡ false → answer_to a m ≡ Refused NotLinks
+junk-answer : (m : List ℕ) (a : Asked) → formed m ≡ false → answer_to a m ≡ Err NotLinks
 unfolding add_said
 junk-answer m (add sink source) f = rw f
 junk-answer m (remove sink source) f = rw f
@@ -153,7 +153,7 @@ unfolding memory
 junk-stays m [] f = refl
 junk-stays m (a ∷ earlier) f = ap (memory_after a) (junk-stays m earlier f) ∙ junk-after m a f
 
-pub junk-refused : (m : List ℕ) (asked : List Asked) (a : Asked) → formed m ≡ false → answer_to a (memory m asked) ≡ Refused NotLinks
+pub junk-refused : (m : List ℕ) (asked : List Asked) (a : Asked) → formed m ≡ false → answer_to a (memory m asked) ≡ Err NotLinks
 junk-refused m asked a f = ap (answer_to a) (junk-stays m asked f) ∙ junk-answer m a f
 
 -- ---- from 64 zeros on nothing is there at the beginning

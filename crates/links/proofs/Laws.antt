@@ -1,7 +1,7 @@
 -- What the program leaves in memory is what each operation says. Assumes nothing.
 use mathlib.Core.Path.{◌≡◌, refl, sym, ap, ◌∙◌}
 use mathlib.Core.Logic.{⊎_elim}
-use mathlib.Core.Bool.{true, false, not, ◌||◌}
+use mathlib.Core.Bool.{Bool, true, false, not, ◌||◌}
 use mathlib.Core.List.{List, [], ◌∷◌, ◌++◌, map, append_assoc}
 use Prim.Native.Nat.{ℕ, zero, suc, ◌+◌, ◌-◌, ◌≤◌, ◌<◌}
 use native.Mathlib.Nat.{zero-add}
@@ -12,16 +12,16 @@ use lib.ListN.{length, get_or, set, drop, replicate, length-append, length-repli
 use lib.Seq.{sets, length-sets, sets-eq, drop_at}
 use borrow.Author.Tests.{eqb-true, eqb-false, eq-eqb, ne_eqb, ltb-true, ltb-false, lt-ltb, le-ltb}
 use Rattle.typeset.proofs.Bools.{yes_or_no, clash, fails, or_cases}
+use Rattle.refusal.specs.declared.Refusal.{Refusal}
 use Rattle.refusal.specs.declared.Refusal.TheVariants.{OnePort, LinksFull, NotLinks}
 use Rattle.lists.specs.Lists.{elem, keep}
 use Rattle.lists.proofs.Places.{keep-le, stores-pad}
 use Rattle.lists.proofs.Members.{or_no, elem-keep, keep-keep, keep-absent}
 use Rattle.lists.proofs.Ascending.{above}
-use Rattle.links.specs.declared.Outcome.TheVariants.{Done, Refused}
-use Rattle.links.specs.declared.Summed.TheVariants as listing
+use Rattle.std.specs.Prelude.{Ok, Err}
 use Rattle.links.specs.Links.{source_of, apart, touches}
 use Rattle.links.specs.Sets.{insert, added, removed, dropped, sources, taken, links, formed, places_of}
-use Rattle.links.specs.Said.{said_formed, room_for, add_said, add_after, remove_after, drop_after, listed, listed_after}
+use Rattle.links.specs.Said.{said_listing, said_formed, room_for, add_said, add_after, remove_after, drop_after, listed, listed_after}
 use Rattle.links.specs.Steps.{place_of, pushed, pulled, stays, remaining, audible, heard_at}
 use Rattle.links.proofs.Memory.{rising, three, rising-ascends, apart-taken, formed-places, links-rise, links-few, padded, room-none, room-last}
 
@@ -105,9 +105,6 @@ taken_is b x (y ∷ ys) k e m =
 
 -- ---- whether it is there
 
-pub below_64 : {i : ℕ} → i ≤ 64 → (i ≡ 64 → ⊥) → i < 64
-below_64 h f = omega arith
-
 elem_at : (m : List ℕ) (i : ℕ) → i < length m → elem (get_or m i 0) m ≡ true
 unfolding elem
 elem_at [] i h = absurd (omega arith)
@@ -190,7 +187,7 @@ remaining-is : (p : ℕ) (m : List ℕ) → remaining p m ≡ dropped p (links m
 unfolding remaining stays links dropped
 remaining-is p m = keep-keep taken (λ l. not (touches p l)) m
 
-remaining-few : (p : ℕ) (m : List ℕ) → length (remaining p m) ≤ length (links m)
+pub remaining-few : (p : ℕ) (m : List ℕ) → length (remaining p m) ≤ length (links m)
 unfolding dropped
 remaining-few p m = rw (remaining-is p m) (keep-le (λ l. not (touches p l)) (links m))
 
@@ -205,23 +202,23 @@ heard-few t m long = omega (arith, long, keep-le (audible t) m, length-map (keep
 -- ---- what each operation answers, and what it leaves
 
 module _ (x : ℕ) (m : List ℕ) where
-  pub add-no-set : formed m ≡ false → (Refused NotLinks ≡ add_said x m) × (m ≡ add_after x m)
+  pub add-no-set : formed m ≡ false → (Err NotLinks ≡ add_said x m) × (m ≡ add_after x m)
   unfolding add_said add_after
   add-no-set f = rw f (refl, refl)
 
-  pub add-one-port : formed m ≡ true → apart x ≡ false → (Refused OnePort ≡ add_said x m) × (m ≡ add_after x m)
+  pub add-one-port : formed m ≡ true → apart x ≡ false → (Err OnePort ≡ add_said x m) × (m ≡ add_after x m)
   unfolding add_said add_after
   add-one-port f a = rw (f, a) (refl, refl)
 
-  pub remove-no-set : formed m ≡ false → (Refused NotLinks ≡ said_formed (formed m)) × (m ≡ remove_after x m)
+  pub remove-no-set : formed m ≡ false → (Err NotLinks ≡ said_formed (formed m)) × (m ≡ remove_after x m)
   unfolding remove_after
   remove-no-set f = rw f (refl, refl)
 
-  pub drop-no-set : formed m ≡ false → (Refused NotLinks ≡ said_formed (formed m)) × (m ≡ drop_after x m)
+  pub drop-no-set : formed m ≡ false → (Err NotLinks ≡ said_formed (formed m)) × (m ≡ drop_after x m)
   unfolding drop_after
   drop-no-set f = rw f (refl, refl)
 
-  pub listed-no-set : (room : List ℕ) → formed m ≡ false → (listing.Refused NotLinks ≡ listed x m) × (room ≡ listed_after x m room)
+  pub listed-no-set : (room : List ℕ) → formed m ≡ false → (Err NotLinks ≡ listed x m) × (room ≡ listed_after x m room)
   unfolding listed listed_after
   listed-no-set room f = rw f (refl, refl)
 
@@ -253,23 +250,23 @@ module _ (x : ℕ) (m : List ℕ) where
           clash (eq-eqb x 0 (sym g ∙ none)) (apart-taken x a)
 
     -- a link that is there
-    pub add-there : apart x ≡ true → elem x (links m) ≡ true → (Done ≡ add_said x m) × (m ≡ add_after x m)
+    pub add-there : apart x ≡ true → elem x (links m) ≡ true → (Ok tt ≡ add_said x m) × (m ≡ add_after x m)
     unfolding add_said add_after room_for added
     add-there a e = rw (f, a, e) (refl, sym (formed-places m long f))
 
-    pub add-found : apart x ≡ true → (i : ℕ) → i < 64 → get_or m i 0 ≡ x → (Done ≡ add_said x m) × (m ≡ add_after x m)
+    pub add-found : apart x ≡ true → (i : ℕ) → i < 64 → get_or m i 0 ≡ x → (Ok tt ≡ add_said x m) × (m ≡ add_after x m)
     add-found a i h e = add-there a (in_place a i h e)
 
     -- no room
-    pub add-full : apart x ≡ true → (i : ℕ) → i ≡ place_of x m → i ≡ 64 → (Refused LinksFull ≡ add_said x m) × (m ≡ add_after x m)
+    pub add-full : apart x ≡ true → (i : ℕ) → i ≡ place_of x m → i ≡ 64 → (Err LinksFull ≡ add_said x m) × (m ≡ add_after x m)
     unfolding add_said add_after room_for
     add-full a i p e = rw (f, a, not_there i p (past_all i p a e), full i p e) (refl, refl)
 
-    pub add-no-room : apart x ≡ true → (i : ℕ) → i ≡ place_of x m → (get_or m i 0 ≡ x → ⊥) → (get_or m 63 0 ≡ 0 → ⊥) → (Refused LinksFull ≡ add_said x m) × (m ≡ add_after x m)
+    pub add-no-room : apart x ≡ true → (i : ℕ) → i ≡ place_of x m → (get_or m i 0 ≡ x → ⊥) → (get_or m 63 0 ≡ 0 → ⊥) → (Err LinksFull ≡ add_said x m) × (m ≡ add_after x m)
     unfolding add_said add_after room_for
     add-no-room a i p g n = rw (f, a, not_there i p g, room-none m long f n) (refl, refl)
 
-    pub add_done : apart x ≡ true → (i : ℕ) → i ≡ place_of x m → (get_or m i 0 ≡ x → ⊥) → get_or m 63 0 ≡ 0 → (Done ≡ add_said x m) × (sets m i (pushed x (drop i m)) ≡ add_after x m)
+    pub add_done : apart x ≡ true → (i : ℕ) → i ≡ place_of x m → (get_or m i 0 ≡ x → ⊥) → get_or m 63 0 ≡ 0 → (Ok tt ≡ add_said x m) × (sets m i (pushed x (drop i m)) ≡ add_after x m)
     unfolding add_said add_after room_for added
     add_done a i p g z = rw (f, a, not_there i p g, room-last m long f z) (refl, placed)
       where
@@ -284,18 +281,18 @@ module _ (x : ℕ) (m : List ℕ) where
             (length-sets m i (pushed x (drop i m)) ∙ long)
 
     -- removing
-    pub remove_absent : elem x (links m) ≡ false → (Done ≡ said_formed (formed m)) × (m ≡ remove_after x m)
+    pub remove_absent : elem x (links m) ≡ false → (Ok tt ≡ said_formed (formed m)) × (m ≡ remove_after x m)
     unfolding remove_after removed
     remove_absent e = rw (f, keep-absent x (links m) e) (refl, sym (formed-places m long f))
 
-    pub remove-past : apart x ≡ true → (i : ℕ) → i ≡ place_of x m → i ≡ 64 → (Done ≡ said_formed (formed m)) × (m ≡ remove_after x m)
+    pub remove-past : apart x ≡ true → (i : ℕ) → i ≡ place_of x m → i ≡ 64 → (Ok tt ≡ said_formed (formed m)) × (m ≡ remove_after x m)
     remove-past a i p e = remove_absent (not_there i p (past_all i p a e))
 
-    pub remove-missed : (i : ℕ) → i ≡ place_of x m → (get_or m i 0 ≡ x → ⊥) → (Done ≡ said_formed (formed m)) × (m ≡ remove_after x m)
+    pub remove-missed : (i : ℕ) → i ≡ place_of x m → (get_or m i 0 ≡ x → ⊥) → (Ok tt ≡ said_formed (formed m)) × (m ≡ remove_after x m)
     remove-missed i p g = remove_absent (not_there i p g)
 
     pub remove-found : apart x ≡ true → (i : ℕ) → i ≡ place_of x m → i < 64 → get_or m i 0 ≡ x
-        → (Done ≡ said_formed (formed m)) × (sets m i (pulled (drop (i + 1) m)) ≡ remove_after x m)
+        → (Ok tt ≡ said_formed (formed m)) × (sets m i (pulled (drop (i + 1) m)) ≡ remove_after x m)
     unfolding remove_after removed
     remove-found a i p h e = rw f (refl, taken_out)
       where
@@ -309,7 +306,7 @@ module _ (x : ℕ) (m : List ℕ) where
             (length-sets m i (pulled (drop (i + 1) m)) ∙ long)
 
     -- dropping: those that stay at the front, and zeros after them up to where the links ended
-    pub drop-done : (Done ≡ said_formed (formed m)) × (sets (sets m 0 (remaining x m)) (length (remaining x m)) (replicate (length (links m) - length (remaining x m)) 0) ≡ drop_after x m)
+    pub drop-done : (Ok tt ≡ said_formed (formed m)) × (sets (sets m 0 (remaining x m)) (length (remaining x m)) (replicate (length (links m) - length (remaining x m)) 0) ≡ drop_after x m)
     unfolding drop_after
     drop-done = rw f (refl, cleared)
       where
@@ -320,9 +317,19 @@ module _ (x : ℕ) (m : List ℕ) where
             ∙ ap places_of (remaining-is x m)
 
     -- listing: as many, and the room with them
-    pub listed-done : (room : List ℕ) → (listing.Count (length (heard_at x m)) ≡ listed x m) × (sets (replicate 64 0) 0 (heard_at x m) ≡ listed_after x m room)
+    pub listed-done : (room : List ℕ) → (Ok (length (heard_at x m)) ≡ listed x m) × (sets (replicate 64 0) 0 (heard_at x m) ≡ listed_after x m room)
     unfolding listed listed_after
     listed-done room = rw (f, heard-is x m) (refl, in-room)
       where
         in-room : sets (replicate 64 0) 0 (sources x (links m)) ≡ places_of (sources x (links m))
         in-room = places-stored (sources x (links m)) (rw (← heard-is x m) (heard-few x m long))
+
+-- ---- what `look` answered: the memory holds a set, of so many links, or it holds none
+
+pub looked : (b : Bool) (n k : ℕ) → Ok n ≡ said_listing b k → (b ≡ true) × (n ≡ k)
+looked true n k e = (refl, cc)
+looked false n k e = let z : ◌≡◌ {A = ℕ} 0 1 = cc in absurd (omega arith)
+
+pub looked_none : (b : Bool) (r : Refusal) (k : ℕ) → Err r ≡ said_listing b k → (b ≡ false) × (r ≡ NotLinks)
+looked_none true r k e = let z : ◌≡◌ {A = ℕ} 0 1 = cc in absurd (omega arith)
+looked_none false r k e = (refl, cc)

@@ -3,11 +3,11 @@ use mathlib.Core.Path.{◌≡◌, refl, sym, ap, ap₂, ◌∙◌}
 use mathlib.Core.Logic.{⊎_elim}
 use mathlib.Core.Bool.{Bool, true, false, ◌&&◌, and-true}
 use mathlib.Core.List.{List, [], ◌∷◌}
-use Prim.Native.Nat.{ℕ, zero, suc, ◌+◌, ◌-◌, ◌≤◌, ◌<◌}
+use Prim.Native.Nat.{ℕ, zero, suc, ◌+◌, ◌≤◌, ◌<◌}
 use native.Mathlib.Numerals.{add-one}
 use native.Mathlib.Omega.{arith}
 use lib.Dec.{eqb, ltb}
-use lib.ListN.{length, get_or, set, drop, replicate, drop_of_length-le}
+use lib.ListN.{length, get_or, set, drop, drop_of_length-le}
 use lib.Bits.{bit_or, or_add_and, and_le_l, and_le_r}
 use lib.Seq.{sets}
 use borrow.Author.Tests.{eq-eqb, ne_eqb, le-ltb, lt-ltb, eqb-true}
@@ -16,7 +16,7 @@ use Rattle.lists.specs.Lists.{keep}
 use Rattle.lists.proofs.Places.{here, keep-yes, keep-no}
 use Rattle.links.specs.Links.{apart}
 use Rattle.links.specs.Sets.{blank, formed_from, formed}
-use Rattle.links.specs.Steps.{place_of, pushed, pulled}
+use Rattle.links.specs.Steps.{pushed, pulled}
 
 -- ---- tests
 
@@ -60,25 +60,6 @@ module _ (b : ℕ) (m : List ℕ) (i : ℕ) (h : i < length m) where
 pub formed-end : (b : ℕ) (m : List ℕ) (i : ℕ) → length m ≤ i → formed_from b (drop i m) ≡ true
 unfolding formed_from
 formed-end b m i h = rw (drop_of_length-le m h)
-
--- ---- the place of a link
-
-module _ (x : ℕ) (m : List ℕ) (i : ℕ) where
-  pub place-free : i < length m → get_or m i 0 ≡ 0 → place_of x (drop i m) ≡ 0
-  unfolding place_of
-  place-free h e = rw (here m i 0 h, eq-eqb (get_or m i 0) 0 e)
-
-  pub place_here : i < length m → (get_or m i 0 ≡ 0 → ⊥) → x ≤ get_or m i 0 → place_of x (drop i m) ≡ 0
-  unfolding place_of
-  place_here h n l = rw (here m i 0 h, ne_eqb (get_or m i 0) 0 n, le-ltb (get_or m i 0) x l)
-
-  pub place-on : i < length m → (get_or m i 0 ≡ 0 → ⊥) → get_or m i 0 < x → place_of x (drop i m) ≡ suc (place_of x (drop (i + 1) m))
-  unfolding place_of
-  place-on h n l = rw (here m i 0 h, ne_eqb (get_or m i 0) 0 n, lt-ltb (get_or m i 0) x l)
-
-  pub place_end : length m ≤ i → place_of x (drop i m) ≡ 0
-  unfolding place_of
-  place_end h = rw (drop_of_length-le m h)
 
 -- ---- memory that is written over from the front: what is still to be read stands as it did
 
@@ -177,18 +158,6 @@ module _ (p : ℕ → Bool) (s m : List ℕ) (n i : ℕ) (t : List ℕ) (d : dro
 
   pub front-skip : i < length m → p (get_or s i 0) ≡ false → (sets s n (keep p (drop (i + 1) m)) ≡ t) × (drop (i + 1) s ≡ drop (i + 1) m)
   front-skip h y = (ap (sets s n) (sym (keep-no p m i 0 h (ap p (sym (same_read s m i d)) ∙ y))) ∙ e, drop-next s m i d)
-
--- ---- zeros up to a place
-
-pub clear-on : (out : List ℕ) (i to : ℕ) → i < to → sets out i (replicate (to - i) 0) ≡ sets (set out i 0) (i + 1) (replicate (to - (i + 1)) 0)
-clear-on out i to h =
-    let one : to - i ≡ suc (to - (i + 1)) = omega arith in
-    rw (one, add-one i)
-
-pub clear-end : (out : List ℕ) (i to : ℕ) → to ≤ i → sets out i (replicate (to - i) 0) ≡ out
-clear-end out i to h =
-    let none : to - i ≡ 0 = omega arith in
-    rw none
 
 -- ---- in a set all is 0 from the first 0 on
 

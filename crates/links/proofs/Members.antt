@@ -13,7 +13,7 @@ use Rattle.refusal.specs.declared.Refusal.TheVariants.{OnePort, LinksFull, NotLi
 use Rattle.lists.specs.Lists.{elem, keep, ascend}
 use Rattle.lists.proofs.Members.{elem-keep}
 use Rattle.lists.proofs.Ascending.{one_list, ascend-low}
-use Rattle.links.specs.declared.Outcome.TheVariants.{Done, Refused}
+use Rattle.std.specs.Prelude.{Ok, Err}
 use Rattle.links.specs.Links.{sink_of, source_of, apart, touches}
 use Rattle.links.specs.Sets.{insert, added, removed, dropped, sources, links, formed, places_of}
 use Rattle.links.specs.Said.{said_formed, room_for, add_said, add_after, remove_after, drop_after}
@@ -91,11 +91,11 @@ module _ (m : List ℕ) (good : formed m ≡ true) where
   -- ---- what changes nothing
 
   -- removing a link that is absent: it is accepted
-  pub absent-stays : (x : ℕ) → length m ≡ 64 → elem x (links m) ≡ false → (said_formed (formed m) ≡ Done) × (remove_after x m ≡ m)
+  pub absent-stays : (x : ℕ) → length m ≡ 64 → elem x (links m) ≡ false → (said_formed (formed m) ≡ Ok tt) × (remove_after x m ≡ m)
   absent-stays x long e = let t = remove_absent x m long good e in (sym t.0, sym t.1)
 
   -- adding a link that is there, even with 64 held: it is accepted
-  pub present-stays : (x : ℕ) → length m ≡ 64 → elem x (links m) ≡ true → (add_said x m ≡ Done) × (add_after x m ≡ m)
+  pub present-stays : (x : ℕ) → length m ≡ 64 → elem x (links m) ≡ true → (add_said x m ≡ Ok tt) × (add_after x m ≡ m)
   present-stays x long e = let t = add-there x m long good (member_apart 0 x (links m) (links-rise m good) e) e in (sym t.0, sym t.1)
 
 -- ---- two sets with the same links are the same memory
@@ -165,14 +165,14 @@ sources-ascend t m f = list-ascends t 0 (links m) (rising-ascends 0 (links m) (l
 
 -- ---- which refusal: 82 before 80, 80 before 81
 
-pub not-links-first : (x : ℕ) (m : List ℕ) → formed m ≡ false → add_said x m ≡ Refused NotLinks
+pub not-links-first : (x : ℕ) (m : List ℕ) → formed m ≡ false → add_said x m ≡ Err NotLinks
 unfolding add_said
 not-links-first x m f = rw f
 
-pub one-port-next : (x : ℕ) (m : List ℕ) → formed m ≡ true → apart x ≡ false → add_said x m ≡ Refused OnePort
+pub one-port-next : (x : ℕ) (m : List ℕ) → formed m ≡ true → apart x ≡ false → add_said x m ≡ Err OnePort
 unfolding add_said
 one-port-next x m f a = rw (f, a)
 
-pub full-last : (x : ℕ) (m : List ℕ) → formed m ≡ true → apart x ≡ true → elem x (links m) ≡ false → ltb (length (links m)) 64 ≡ false → add_said x m ≡ Refused LinksFull
+pub full-last : (x : ℕ) (m : List ℕ) → formed m ≡ true → apart x ≡ true → elem x (links m) ≡ false → ltb (length (links m)) 64 ≡ false → add_said x m ≡ Err LinksFull
 unfolding add_said room_for
 full-last x m f a e n = rw (f, a, e, n)

@@ -2,13 +2,13 @@
 use mathlib.Core.Path.{◌≡◌, refl, sym, ap, ◌∙◌}
 use mathlib.Core.Logic.{⊎_elim}
 use mathlib.Core.Bool.{Bool, true, false, ◌&&◌}
-use mathlib.Core.List.{List, [], ◌∷◌, ◌++◌, append-nil}
+use mathlib.Core.List.{List, [], ◌∷◌, ◌++◌}
 use Prim.Native.Nat.{ℕ, zero, suc, ◌+◌, ◌-◌, ◌≤◌, ◌<◌}
 use native.Mathlib.Nat.{suc-sub-suc, sub-zero}
 use native.Mathlib.Omega.{arith}
 use lib.Dec.{eqb, ltb}
-use lib.ListN.{length, get_or, drop, replicate, length-append, length-replicate, get_or-replicate, get_or-append, drop_of_length-le}
-use lib.Seq.{sets, sets-eq, get_or-append-add}
+use lib.ListN.{length, get_or, drop, replicate, length-append, length-replicate, get_or-replicate, get_or-append}
+use lib.Seq.{get_or-append-add}
 use borrow.Author.Tests.{eqb-true, eqb-false, ltb-true, ltb-false, lt-ltb}
 use Rattle.typeset.proofs.Bools.{yes_or_no, clash, and_left, and_right, and-make}
 use Rattle.lists.specs.Lists.{elem, keep, ascend}
@@ -79,10 +79,6 @@ positive f = omega arith
 pub apart-taken : (x : ℕ) → apart x ≡ true → eqb x 0 ≡ false
 unfolding apart
 apart-taken x a = ⊎_elim (λ e. absurd (clash a (rw (eqb-true x 0 e) refl))) (λ e. e) (yes_or_no (eqb x 0))
-
-pub rising-taken : (b x : ℕ) (xs : List ℕ) → rising b (x ∷ xs) ≡ true → eqb x 0 ≡ false
-unfolding rising
-rising-taken b x xs e = apart-taken x (three (ltb b x) (apart x) (rising x xs) e).1
 
 -- ---- from memory to the list
 
@@ -171,12 +167,6 @@ unfolding places_of
 places-length xs h = length-append xs (replicate (64 - length xs) 0) ∙ omega (arith, length-replicate {A = ℕ} (64 - length xs) 0)
 
 -- 64 numbers stored over 64 places
-pub whole-stored : (m xs : List ℕ) → length m ≡ 64 → length xs ≡ 64 → sets m 0 xs ≡ xs
-whole-stored m xs long e =
-    let fits : 0 + length xs ≤ length m = omega (arith, long, e) in
-    let past : length m ≤ 0 + length xs = omega (arith, long, e) in
-    sets-eq xs m 0 fits ∙ ap (λ (l : List ℕ). xs ++ l) (drop_of_length-le m past) ∙ append-nil xs
-
 -- ---- a set in lent memory: where its last place is free there is room, and only there
 
 module _ (m : List ℕ) (long : length m ≡ 64) (good : formed m ≡ true) where

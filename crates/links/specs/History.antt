@@ -1,8 +1,8 @@
 -- Who hears whom, by the history alone: what was asked of the box, and what was answered. Assumes nothing.
-use Rattle.std.specs.Prelude.{ℕ, Bool, true, false, ◌&&◌, cond, List, [], ◌∷◌, eqb}
+use Rattle.std.specs.Prelude.{ℕ, Bool, true, false, ◌&&◌, cond, List, [], ◌∷◌, eqb, Result, ⊤}
 use Rattle.lists.specs.Lists.{elem}
 use Rattle.links.specs.declared.Termination.{Termination}
-use Rattle.links.specs.declared.Outcome.{Outcome}
+use Rattle.refusal.specs.declared.Refusal.{Refusal}
 use Rattle.links.specs.Links.{link, touches}
 use Rattle.links.specs.Sets.{formed}
 use Rattle.links.specs.Said.{is_done, said_formed, add_said, add_after, remove_after, drop_after}
@@ -16,7 +16,7 @@ pub data Asked : Type 0 where
 -- a line of the history: what was asked, and the answer
 pub record Line : Type 0 where
   pub asked : Asked
-  pub answer : Outcome
+  pub answer : Result ⊤ Refusal
 
 -- ---- what the history says
 
@@ -40,7 +40,7 @@ there beginning (l ∷ earlier) x = cond (is_done l.answer && about x l.asked) (
 -- ---- what the operations do, one after the other
 
 -- the answer to one, and the memory after it
-abbrev pub answer_to : Asked → List ℕ → Outcome
+abbrev pub answer_to : Asked → List ℕ → Result ⊤ Refusal
 answer_to (add sink source) m = add_said (link sink source) m
 answer_to (remove sink source) m = said_formed (formed m)
 answer_to (drop_port port) m = said_formed (formed m)

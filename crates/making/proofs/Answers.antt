@@ -1,5 +1,6 @@
--- The manual's equations (5.4, 5.5, 5.6) as records, and that what is answered keeps them: whatever the plan, the box and the arguments, where a setup is made, `(answer).setup` is well
--- formed and has these fields. In them an argument 0 is `noAddr`, an empty string `noString`. Beside a refusal stands the blank setup. Assumes nothing.
+-- The manual's equations (5.4, 5.5, 5.6) as records, and that what is answered keeps them: whatever the plan, the box and the arguments, where a setup is made, it is well
+-- formed and has these fields. In them an argument 0 is `noAddr`, an empty string `noString`. Assumes nothing.
+use Rattle.std.specs.Prelude.{Some, None, Result, Ok, Err, IsOkAnd, ⊤}
 use mathlib.Core.Path.{◌≡◌, refl, sym, ap, subst, ◌∙◌}
 use mathlib.Core.Bool.{true, false, not, ◌||◌, false≢true}
 use mathlib.Core.List.{List}
@@ -16,34 +17,29 @@ use Rattle.plan.specs.declared.Plan.{Plan}
 use Rattle.plan.specs.Find.{lookup}
 use Rattle.setup.specs.declared.Route.{Route}
 use Rattle.setup.specs.declared.Route.TheVariants.{Whole, Suffix, Listed}
-use Rattle.setup.specs.declared.Placing.TheVariants.{NoPlacing, PlacedBy}
-use Rattle.setup.specs.declared.Outer.TheVariants.{NoOuter, OuterAt}
 use Rattle.setup.specs.declared.Setup.{Setup}
 use Rattle.setup.specs.Dialling.{dialled, string_of}
-use Rattle.setup.specs.Setups.{list_of, well_formed}
+use Rattle.zone.specs.Order.{list_of}
+use Rattle.setup.specs.Setups.{well_formed}
 use Rattle.setup.proofs.Stored.{string-of-dialled}
 use Rattle.making.specs.declared.Maker.{Maker}
 use Rattle.making.specs.declared.Maker.TheVariants.{Feature, Line, Trunk, Resource, Error}
-use Rattle.making.specs.declared.Outcome.{Outcome}
-use Rattle.making.specs.declared.Outcome.TheVariants.{Made, Refused}
-use Rattle.making.specs.Making.{box_address, box_type, kind_of, somebody, makes_more, address_held, new_setup, continued_setup, turned, reversed_setup, is_list, not_own, new_outcome, continued_outcome, reversed_outcome, blank_setup, answered, new_answer, continued_answer, reversed_answer}
+use Rattle.making.specs.Making.{box_address, box_type, kind_of, somebody, makes_more, address_held, new_setup, continued_setup, turned, reversed_setup, is_list, not_own, new_outcome, continued_outcome, reversed_outcome, answered, new_answer, continued_answer, reversed_answer}
 use Rattle.making.proofs.Outcomes.{new-made, continued-made, reversed-made}
 use Rattle.making.proofs.WellFormed.{new-well-formed, continued-well-formed, reversed-well-formed}
 use Rattle.making.proofs.Manual as manual
 
 -- ---- an answer
 
-pub answered-made : (o : Outcome) (s : Setup) → o ≡ Made → (answered o s).setup ≡ s
-unfolding answered
+pub answered-made : (o : Result ⊤ Refusal) (s : Setup) → o ≡ Ok tt → answered o s ≡ Ok s
 answered-made o s e = rw e
 
-pub answered-refused : (o : Outcome) (s : Setup) (r : Refusal) → o ≡ Refused r → answered o s ≡ record { outcome = Refused r; setup = blank_setup }
-unfolding answered
+pub answered-refused : (o : Result ⊤ Refusal) (s : Setup) (r : Refusal) → o ≡ Err r → answered o s ≡ Err r
 answered-refused o s r e = rw e
 
 -- what holds of the setup that is made holds of the one answered
-of-answer : (P : Setup → Type 0) (o : Outcome) (s : Setup) → o ≡ Made → P s → P (answered o s).setup
-of-answer P o s e h = subst P (sym (answered-made o s e)) h
+of-answer : (P : Setup → Type 0) (o : Result ⊤ Refusal) (s : Setup) → o ≡ Ok tt → P s → IsOkAnd (answered o s) P
+of-answer P o s e h = subst (λ (x : Result Setup Refusal). IsOkAnd x P) (sym (answered-made o s e)) h
 
 -- ---- 5.4: the box b invokes the method, s is the result
 
@@ -53,8 +49,8 @@ pub record NewBy (p : Plan) (b : Maker) (dldArg : List ℕ) (trgArg : ℕ) (s : 
   pub dld : s.dialled ≡ dialled dldArg
   pub trg : s.target ≡ trgArg
   pub route : s.route ≡ Whole
-  pub placing : s.placing ≡ NoPlacing
-  pub outer : s.outer ≡ OuterAt s.source
+  pub placing : s.placing ≡ None
+  pub outer : s.outer ≡ Some s.source
   -- the source of a feature box is an address of the plan, that of a line box a line's, that of a trunk box a trunk's
   pub feature : (t a : ℕ) → b ≡ Feature t a → (s.source ≡ a) × (somebody (lookup p s.source) ≡ true)
   pub line : (a : ℕ) → b ≡ Line a → (s.source ≡ a) × (kind_of p (lookup p s.source) ≡ 1)
@@ -75,11 +71,11 @@ new_by p b dldArg trgArg held-here = record {
   trunk = λ a e. rw e (refl, eqb-true (kind_of p (lookup p a)) 2 (rw e at held-here));
 }
 
-module _ (p : Plan) (b : Maker) (dldArg : List ℕ) (trgArg : ℕ) (made : new_outcome p b dldArg trgArg ≡ Made) where
-  pub new-answer : NewBy p b dldArg trgArg (new_answer p b dldArg trgArg).setup
+module _ (p : Plan) (b : Maker) (dldArg : List ℕ) (trgArg : ℕ) (made : new_outcome p b dldArg trgArg ≡ Ok tt) where
+  pub new-answer : IsOkAnd (new_answer p b dldArg trgArg) (NewBy p b dldArg trgArg)
   new-answer = of-answer (NewBy p b dldArg trgArg) (new_outcome p b dldArg trgArg) (new_setup (box_address b) dldArg trgArg) made (new_by p b dldArg trgArg (new-made p b dldArg trgArg made).held-here)
 
-  pub new-answer-well-formed : well_formed p (new_answer p b dldArg trgArg).setup ≡ true
+  pub new-answer-well-formed : IsOkAnd (new_answer p b dldArg trgArg) (λ s. well_formed p s ≡ true)
   new-answer-well-formed =
       of-answer (λ (s : Setup). well_formed p s ≡ true) (new_outcome p b dldArg trgArg) (new_setup (box_address b) dldArg trgArg) made (new-well-formed p b dldArg trgArg made)
 
@@ -106,17 +102,17 @@ pub record ContinuedBy (b : ℕ) (ss : Setup) (srcArg : ℕ) (dldArg : List ℕ)
   pub src-changes : ss.region ≡ Source → eqb srcArg 0 ≡ false → eqb srcArg b ≡ false
   pub trg-changes : ss.region ≡ Target → eqb trgArg 0 ≡ false → eqb trgArg b ≡ false
   pub regn : s.region ≡ ss.region
-  pub src-given : s.region ≡ Source → eqb srcArg 0 ≡ false → (s.source ≡ srcArg) × (s.route ≡ Whole) × (s.outer ≡ OuterAt b)
-  pub src-box : s.region ≡ Source → eqb srcArg 0 ≡ true → (s.source ≡ b) × (s.route ≡ ss.route) × (list_of s.list ≡ list_of ss.list) × (s.outer ≡ NoOuter)
-  pub trg-given : s.region ≡ Target → eqb trgArg 0 ≡ false → (s.target ≡ trgArg) × (s.route ≡ Whole) × (s.outer ≡ NoOuter)
-  pub trg-box : s.region ≡ Target → eqb trgArg 0 ≡ true → (s.target ≡ b) × (s.route ≡ ss.route) × (list_of s.list ≡ list_of ss.list) × (s.outer ≡ NoOuter)
+  pub src-given : s.region ≡ Source → eqb srcArg 0 ≡ false → (s.source ≡ srcArg) × (s.route ≡ Whole) × (s.outer ≡ Some b)
+  pub src-box : s.region ≡ Source → eqb srcArg 0 ≡ true → (s.source ≡ b) × (s.route ≡ ss.route) × (list_of s.list ≡ list_of ss.list) × (s.outer ≡ None)
+  pub trg-given : s.region ≡ Target → eqb trgArg 0 ≡ false → (s.target ≡ trgArg) × (s.route ≡ Whole) × (s.outer ≡ None)
+  pub trg-box : s.region ≡ Target → eqb trgArg 0 ≡ true → (s.target ≡ b) × (s.route ≡ ss.route) × (list_of s.list ≡ list_of ss.list) × (s.outer ≡ None)
   pub other-trg-given : s.region ≡ Source → eqb trgArg 0 ≡ false → s.target ≡ trgArg
   pub other-trg-kept : s.region ≡ Source → eqb trgArg 0 ≡ true → s.target ≡ ss.target
   pub other-src-given : s.region ≡ Target → eqb srcArg 0 ≡ false → s.source ≡ srcArg
   pub other-src-kept : s.region ≡ Target → eqb srcArg 0 ≡ true → s.source ≡ ss.source
   pub dld-given : eqb (length dldArg) 0 ≡ false → s.dialled ≡ dialled dldArg
   pub dld-kept : eqb (length dldArg) 0 ≡ true → string_of s.dialled ≡ string_of ss.dialled
-  pub placing : s.placing ≡ NoPlacing
+  pub placing : s.placing ≡ None
 
 continued-by : (b : ℕ) (ss : Setup) (srcArg : ℕ) (dldArg : List ℕ) (trgArg : ℕ) → ss.route ≡ Listed → not_own ss.region b srcArg trgArg ≡ true
     → ContinuedBy b ss srcArg dldArg trgArg (continued_setup b ss srcArg dldArg trgArg)
@@ -141,17 +137,17 @@ continued-by b ss srcArg dldArg trgArg listed another =
       placing = manual.continued-placing b ss srcArg dldArg trgArg;
     }
 
-module _ (p : Plan) (m : Maker) (ss : Setup) (srcArg : ℕ) (dldArg : List ℕ) (trgArg : ℕ) (made : continued_outcome p m ss srcArg dldArg trgArg ≡ Made) where
+module _ (p : Plan) (m : Maker) (ss : Setup) (srcArg : ℕ) (dldArg : List ℕ) (trgArg : ℕ) (made : continued_outcome p m ss srcArg dldArg trgArg ≡ Ok tt) where
   pub continued-by-feature : m ≡ Feature (box_type m) (box_address m)
   continued-by-feature = only-features m (continued-made p m ss srcArg dldArg trgArg made).may-make
 
-  pub continued-answer : ContinuedBy (box_address m) ss srcArg dldArg trgArg (continued_answer p m ss srcArg dldArg trgArg).setup
+  pub continued-answer : IsOkAnd (continued_answer p m ss srcArg dldArg trgArg) (ContinuedBy (box_address m) ss srcArg dldArg trgArg)
   continued-answer =
       let k = continued-made p m ss srcArg dldArg trgArg made in
       of-answer (ContinuedBy (box_address m) ss srcArg dldArg trgArg) (continued_outcome p m ss srcArg dldArg trgArg) (continued_setup (box_address m) ss srcArg dldArg trgArg) made
       (continued-by (box_address m) ss srcArg dldArg trgArg (is-listed ss.route (and_right (well_formed p ss) (is_list ss.route) k.from_list)) k.another)
 
-  pub continued-answer-well-formed : well_formed p (continued_answer p m ss srcArg dldArg trgArg).setup ≡ true
+  pub continued-answer-well-formed : IsOkAnd (continued_answer p m ss srcArg dldArg trgArg) (λ s. well_formed p s ≡ true)
   continued-answer-well-formed =
       of-answer (λ (s : Setup). well_formed p s ≡ true) (continued_outcome p m ss srcArg dldArg trgArg) (continued_setup (box_address m) ss srcArg dldArg trgArg) made
       (continued-well-formed p m ss srcArg dldArg trgArg made)
@@ -164,10 +160,10 @@ pub record ReversedBy (p : Plan) (t b : ℕ) (ss : Setup) (srcArg : ℕ) (dldArg
   pub trg-changes : ss.region ≡ Source → eqb trgArg 0 ≡ false → eqb trgArg b ≡ false
   pub to-target : ss.region ≡ Source → s.region ≡ Target
   pub to-source : ss.region ≡ Target → s.region ≡ Source
-  pub src-given : s.region ≡ Source → eqb srcArg 0 ≡ false → (s.source ≡ srcArg) × (s.route ≡ Whole) × (s.outer ≡ OuterAt b) × (s.placing ≡ NoPlacing)
-  pub src-box : s.region ≡ Source → eqb srcArg 0 ≡ true → (s.source ≡ b) × (s.route ≡ Suffix) × (s.placing ≡ PlacedBy t) × (s.outer ≡ NoOuter)
-  pub trg-given : s.region ≡ Target → eqb trgArg 0 ≡ false → (s.target ≡ trgArg) × (s.route ≡ Whole) × (s.outer ≡ NoOuter) × (s.placing ≡ NoPlacing)
-  pub trg-box : s.region ≡ Target → eqb trgArg 0 ≡ true → (s.target ≡ b) × (s.route ≡ Suffix) × (s.placing ≡ PlacedBy t) × (s.outer ≡ NoOuter)
+  pub src-given : s.region ≡ Source → eqb srcArg 0 ≡ false → (s.source ≡ srcArg) × (s.route ≡ Whole) × (s.outer ≡ Some b) × (s.placing ≡ None)
+  pub src-box : s.region ≡ Source → eqb srcArg 0 ≡ true → (s.source ≡ b) × (s.route ≡ Suffix) × (s.placing ≡ Some t) × (s.outer ≡ None)
+  pub trg-given : s.region ≡ Target → eqb trgArg 0 ≡ false → (s.target ≡ trgArg) × (s.route ≡ Whole) × (s.outer ≡ None) × (s.placing ≡ None)
+  pub trg-box : s.region ≡ Target → eqb trgArg 0 ≡ true → (s.target ≡ b) × (s.route ≡ Suffix) × (s.placing ≡ Some t) × (s.outer ≡ None)
   pub other-trg-given : s.region ≡ Source → eqb trgArg 0 ≡ false → s.target ≡ trgArg
   pub other-trg-kept : s.region ≡ Source → eqb trgArg 0 ≡ true → s.target ≡ ss.source
   pub other-src-given : s.region ≡ Target → eqb srcArg 0 ≡ false → s.source ≡ srcArg
@@ -204,17 +200,17 @@ reversed-by p t b ss srcArg dldArg trgArg may another =
       dld-kept = λ e. ap string_of ((manual.reversed-string t b ss srcArg dldArg trgArg).1 e) ∙ string-of-dialled (string_of ss.dialled);
     }
 
-module _ (p : Plan) (m : Maker) (ss : Setup) (srcArg : ℕ) (dldArg : List ℕ) (trgArg : ℕ) (made : reversed_outcome p m ss srcArg dldArg trgArg ≡ Made) where
+module _ (p : Plan) (m : Maker) (ss : Setup) (srcArg : ℕ) (dldArg : List ℕ) (trgArg : ℕ) (made : reversed_outcome p m ss srcArg dldArg trgArg ≡ Ok tt) where
   pub reversed-by-feature : m ≡ Feature (box_type m) (box_address m)
   reversed-by-feature = only-features m (reversed-made p m ss srcArg dldArg trgArg made).may-make
 
-  pub reversed-answer : ReversedBy p (box_type m) (box_address m) ss srcArg dldArg trgArg (reversed_answer p m ss srcArg dldArg trgArg).setup
+  pub reversed-answer : IsOkAnd (reversed_answer p m ss srcArg dldArg trgArg) (ReversedBy p (box_type m) (box_address m) ss srcArg dldArg trgArg)
   reversed-answer =
       let k = reversed-made p m ss srcArg dldArg trgArg made in
       of-answer (ReversedBy p (box_type m) (box_address m) ss srcArg dldArg trgArg) (reversed_outcome p m ss srcArg dldArg trgArg) (reversed_setup (box_type m) (box_address m) ss srcArg dldArg trgArg) made
       (reversed-by p (box_type m) (box_address m) ss srcArg dldArg trgArg k.reversible k.another)
 
-  pub reversed-answer-well-formed : well_formed p (reversed_answer p m ss srcArg dldArg trgArg).setup ≡ true
+  pub reversed-answer-well-formed : IsOkAnd (reversed_answer p m ss srcArg dldArg trgArg) (λ s. well_formed p s ≡ true)
   reversed-answer-well-formed =
       of-answer (λ (s : Setup). well_formed p s ≡ true) (reversed_outcome p m ss srcArg dldArg trgArg) (reversed_setup (box_type m) (box_address m) ss srcArg dldArg trgArg) made
       (reversed-well-formed p m ss srcArg dldArg trgArg made)

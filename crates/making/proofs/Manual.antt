@@ -1,5 +1,6 @@
 -- The manual's equations for continued and reversed setups (5.5, 5.6), field by field, of the setup that is made; `Answers.antt` states them of what is answered. In them an argument 0
 -- is `noAddr` and an empty string `noString`. Assumes nothing.
+use Rattle.std.specs.Prelude.{Option, Some, None}
 use mathlib.Core.Path.{◌≡◌, refl}
 use mathlib.Core.Bool.{Bool, true, false, cond}
 use mathlib.Core.List.{List}
@@ -8,11 +9,10 @@ use lib.Dec.{eqb}
 use lib.ListN.{length}
 use Rattle.plan.specs.declared.Region.TheVariants.{Source, Target}
 use Rattle.setup.specs.declared.Route.TheVariants.{Whole, Suffix, Listed}
-use Rattle.setup.specs.declared.Placing.TheVariants.{NoPlacing, PlacedBy}
-use Rattle.setup.specs.declared.Outer.TheVariants.{NoOuter, OuterAt}
 use Rattle.setup.specs.declared.Setup.{Setup}
 use Rattle.setup.specs.Dialling.{dialled, string_of}
-use Rattle.setup.specs.Setups.{routing, list_of}
+use Rattle.zone.specs.Order.{list_of}
+use Rattle.setup.specs.Setups.{routing}
 use Rattle.zone.proofs.Held.{held-list}
 use Rattle.making.specs.Making.{further, continued_setup, turned, reversed_setup}
 
@@ -26,22 +26,22 @@ module _ (box : ℕ) (ss : Setup) (srcArg : ℕ) (dldArg : List ℕ) (trgArg : �
   unfolding continued_setup further
   continued-regn = refl
 
-  pub continued-source-given : ss.region ≡ Source → eqb srcArg 0 ≡ false → (s.source ≡ srcArg) × (s.route ≡ Whole) × (s.outer ≡ OuterAt box)
+  pub continued-source-given : ss.region ≡ Source → eqb srcArg 0 ≡ false → (s.source ≡ srcArg) × (s.route ≡ Whole) × (s.outer ≡ Some box)
   unfolding continued_setup further
   continued-source-given r e = rw (r, e) (refl, refl, refl)
 
   -- the route that is kept is a list, since no other is continued (5)
   pub continued-source-kept : ss.region ≡ Source → eqb srcArg 0 ≡ true → ss.route ≡ Listed
-      → (s.source ≡ box) × (s.route ≡ ss.route) × (list_of s.list ≡ list_of ss.list) × (s.outer ≡ NoOuter)
+      → (s.source ≡ box) × (s.route ≡ ss.route) × (list_of s.list ≡ list_of ss.list) × (s.outer ≡ None)
   unfolding continued_setup further list_of
   continued-source-kept r e l = rw (r, e, l) (refl, refl, held-list (list_of ss.list), refl)
 
-  pub continued-target-given : ss.region ≡ Target → eqb trgArg 0 ≡ false → (s.target ≡ trgArg) × (s.route ≡ Whole) × (s.outer ≡ NoOuter)
+  pub continued-target-given : ss.region ≡ Target → eqb trgArg 0 ≡ false → (s.target ≡ trgArg) × (s.route ≡ Whole) × (s.outer ≡ None)
   unfolding continued_setup further
   continued-target-given r e = rw (r, e) (refl, refl, refl)
 
   pub continued-target-kept : ss.region ≡ Target → eqb trgArg 0 ≡ true → ss.route ≡ Listed
-      → (s.target ≡ box) × (s.route ≡ ss.route) × (list_of s.list ≡ list_of ss.list) × (s.outer ≡ NoOuter)
+      → (s.target ≡ box) × (s.route ≡ ss.route) × (list_of s.list ≡ list_of ss.list) × (s.outer ≡ None)
   unfolding continued_setup further list_of
   continued-target-kept r e l = rw (r, e, l) (refl, refl, held-list (list_of ss.list), refl)
 
@@ -55,13 +55,13 @@ module _ (box : ℕ) (ss : Setup) (srcArg : ℕ) (dldArg : List ℕ) (trgArg : �
   continued-other-source r = (λ e. rw (r, e) refl, λ e. rw (r, e) refl)
 
   -- no placing type
-  no-placing : (b : Bool) → cond b NoPlacing NoPlacing ≡ NoPlacing
-  no-placing true = refl
-  no-placing false = refl
+  either-way : (b : Bool) (placing : Option ℕ) → cond b placing placing ≡ placing
+  either-way true placing = refl
+  either-way false placing = refl
 
-  pub continued-placing : s.placing ≡ NoPlacing
+  pub continued-placing : s.placing ≡ None
   unfolding continued_setup further
-  continued-placing = no-placing (eqb (routing ss.region srcArg trgArg) 0)
+  continued-placing = either-way (eqb (routing ss.region srcArg trgArg) 0) None
 
   -- the string
   pub continued-string : (eqb (length dldArg) 0 ≡ false → s.dialled ≡ dialled dldArg) × (eqb (length dldArg) 0 ≡ true → s.dialled ≡ dialled (string_of ss.dialled))
@@ -79,11 +79,11 @@ module _ (type box : ℕ) (ss : Setup) (srcArg : ℕ) (dldArg : List ℕ) (trgAr
   reversed-regn = refl
 
   -- to the source region
-  pub reversed-source-given : ss.region ≡ Target → eqb srcArg 0 ≡ false → (t.source ≡ srcArg) × (t.route ≡ Whole) × (t.outer ≡ OuterAt box) × (t.placing ≡ NoPlacing)
+  pub reversed-source-given : ss.region ≡ Target → eqb srcArg 0 ≡ false → (t.source ≡ srcArg) × (t.route ≡ Whole) × (t.outer ≡ Some box) × (t.placing ≡ None)
   unfolding reversed_setup further
   reversed-source-given r e = rw (r, e) (refl, refl, refl, refl)
 
-  pub reversed-source-box : ss.region ≡ Target → eqb srcArg 0 ≡ true → (t.source ≡ box) × (t.route ≡ Suffix) × (t.placing ≡ PlacedBy type) × (t.outer ≡ NoOuter)
+  pub reversed-source-box : ss.region ≡ Target → eqb srcArg 0 ≡ true → (t.source ≡ box) × (t.route ≡ Suffix) × (t.placing ≡ Some type) × (t.outer ≡ None)
   unfolding reversed_setup further
   reversed-source-box r e = rw (r, e) (refl, refl, refl, refl)
 
@@ -92,11 +92,11 @@ module _ (type box : ℕ) (ss : Setup) (srcArg : ℕ) (dldArg : List ℕ) (trgAr
   reversed-other-target r = (λ e. rw (r, e) refl, λ e. rw (r, e) refl)
 
   -- to the target region
-  pub reversed-target-given : ss.region ≡ Source → eqb trgArg 0 ≡ false → (t.target ≡ trgArg) × (t.route ≡ Whole) × (t.outer ≡ NoOuter) × (t.placing ≡ NoPlacing)
+  pub reversed-target-given : ss.region ≡ Source → eqb trgArg 0 ≡ false → (t.target ≡ trgArg) × (t.route ≡ Whole) × (t.outer ≡ None) × (t.placing ≡ None)
   unfolding reversed_setup further
   reversed-target-given r e = rw (r, e) (refl, refl, refl, refl)
 
-  pub reversed-target-box : ss.region ≡ Source → eqb trgArg 0 ≡ true → (t.target ≡ box) × (t.route ≡ Suffix) × (t.placing ≡ PlacedBy type) × (t.outer ≡ NoOuter)
+  pub reversed-target-box : ss.region ≡ Source → eqb trgArg 0 ≡ true → (t.target ≡ box) × (t.route ≡ Suffix) × (t.placing ≡ Some type) × (t.outer ≡ None)
   unfolding reversed_setup further
   reversed-target-box r e = rw (r, e) (refl, refl, refl, refl)
 

@@ -1,4 +1,5 @@
 -- What an outcome says: where a setup is made every test passed, and then the string is all of its first 32 bytes. Assumes nothing.
+use Rattle.std.specs.Prelude.{Result, Ok, Err, ⊤}
 use mathlib.Core.Path.{◌≡◌, refl, ap}
 use mathlib.Core.Bool.{Bool, true, false, ◌&&◌}
 use mathlib.Core.List.{List}
@@ -16,27 +17,26 @@ use Rattle.plan.specs.Parts.{legal}
 use Rattle.plan.specs.Sound.{sound}
 use Rattle.setup.specs.declared.Setup.{Setup}
 use Rattle.making.specs.declared.Maker.{Maker}
-use Rattle.making.specs.declared.Outcome.{Outcome}
-use Rattle.making.specs.declared.Outcome.TheVariants.{Made, Refused}
 use Rattle.setup.specs.Dialling.{legal_string}
 use Rattle.setup.specs.Setups.{routing_address, well_formed}
-use Rattle.making.specs.Making.{box_address, box_type, type_exists, makes_new, makes_more, address_held, turned, unless, is_list, not_own, new_outcome, new_outcome_by, continued_outcome, continued_outcome_by, reversed_outcome, reversed_outcome_by, answered}
+use Rattle.refusal.specs.Numbers.{unless}
+use Rattle.making.specs.Making.{box_address, box_type, type_exists, makes_new, makes_more, address_held, turned, is_list, not_own, new_outcome, new_outcome_by, continued_outcome, continued_outcome_by, reversed_outcome, reversed_outcome_by, answered}
 use Rattle.setup.proofs.Stored.{all-32}
 
 -- a test that did not refuse passed, and what follows it did not refuse
-pub unless-passed : (b : Bool) (r : Refusal) (rest : Outcome) → unless b r rest ≡ Made → b ≡ true
+pub unless-passed : (b : Bool) (r : Refusal) (rest : Result ⊤ Refusal) → unless b r rest ≡ Ok tt → b ≡ true
 unless-passed true r rest e = refl
 unless-passed false r rest e = let never : ◌≡◌ {A = ℕ} 0 1 = cc in absurd (omega arith)
 
-pub unless-rest : (b : Bool) (r : Refusal) (rest : Outcome) → unless b r rest ≡ Made → rest ≡ Made
+pub unless-rest : (b : Bool) (r : Refusal) (rest : Result ⊤ Refusal) → unless b r rest ≡ Ok tt → rest ≡ Ok tt
 unless-rest true r rest e = e
 unless-rest false r rest e = let never : ◌≡◌ {A = ℕ} 0 1 = cc in absurd (omega arith)
 
 -- beside a refusal it does not matter which setup would have been made
-pub answered-alike : (o : Outcome) (s t : Setup) → (o ≡ Made → s ≡ t) → answered o s ≡ answered o t
+pub answered-alike : (o : Result ⊤ Refusal) (s t : Setup) → (o ≡ Ok tt → s ≡ t) → answered o s ≡ answered o t
 unfolding answered
-answered-alike Made s t f = ap (λ (u : Setup). answered Made u) (f refl)
-answered-alike (Refused r) s t f = refl
+answered-alike (Ok _) s t f = ap (λ (u : Setup). answered (Ok tt) u) (f refl)
+answered-alike (Err r) s t f = refl
 
 -- a legal string is all of its first 32 bytes
 pub legal-all : (l : List ℕ) → legal_string l ≡ true → take 32 l ≡ l
@@ -53,7 +53,7 @@ pub record New (verdict : Bool) (p : Plan) (m : Maker) (string : List ℕ) (targ
   pub string-legal : legal_string string ≡ true
   pub target-legal : legal targetArg ≡ true
 
-pub new-made-by : (verdict : Bool) (p : Plan) (m : Maker) (string : List ℕ) (targetArg : ℕ) → new_outcome_by verdict p m string targetArg ≡ Made → New verdict p m string targetArg
+pub new-made-by : (verdict : Bool) (p : Plan) (m : Maker) (string : List ℕ) (targetArg : ℕ) → new_outcome_by verdict p m string targetArg ≡ Ok tt → New verdict p m string targetArg
 unfolding new_outcome_by
 new-made-by verdict p m string targetArg e =
     let e0 = e in
@@ -71,7 +71,7 @@ new-made-by verdict p m string targetArg e =
       target-legal = unless-passed (legal targetArg) AddressTooLarge _ e5;
     }
 
-pub new-made : (p : Plan) (m : Maker) (string : List ℕ) (targetArg : ℕ) → new_outcome p m string targetArg ≡ Made → New (sound p) p m string targetArg
+pub new-made : (p : Plan) (m : Maker) (string : List ℕ) (targetArg : ℕ) → new_outcome p m string targetArg ≡ Ok tt → New (sound p) p m string targetArg
 new-made p m string targetArg e = new-made-by (sound p) p m string targetArg e
 
 pub record Continued (verdict : Bool) (p : Plan) (m : Maker) (s : Setup) (sourceArg : ℕ) (string : List ℕ) (targetArg : ℕ) : Type 0 where
@@ -85,7 +85,7 @@ pub record Continued (verdict : Bool) (p : Plan) (m : Maker) (s : Setup) (source
   pub another : not_own s.region (box_address m) sourceArg targetArg ≡ true
   pub both-legal : (legal sourceArg && legal targetArg) ≡ true
 
-pub continued-made-by : (verdict : Bool) (p : Plan) (m : Maker) (s : Setup) (sourceArg : ℕ) (string : List ℕ) (targetArg : ℕ) → continued_outcome_by verdict p m s sourceArg string targetArg ≡ Made → Continued verdict p m s sourceArg string targetArg
+pub continued-made-by : (verdict : Bool) (p : Plan) (m : Maker) (s : Setup) (sourceArg : ℕ) (string : List ℕ) (targetArg : ℕ) → continued_outcome_by verdict p m s sourceArg string targetArg ≡ Ok tt → Continued verdict p m s sourceArg string targetArg
 unfolding continued_outcome_by
 continued-made-by verdict p m s sourceArg string targetArg e =
     let e0 = e in
@@ -109,7 +109,7 @@ continued-made-by verdict p m s sourceArg string targetArg e =
       both-legal = unless-passed (legal sourceArg && legal targetArg) AddressTooLarge _ e8;
     }
 
-pub continued-made : (p : Plan) (m : Maker) (s : Setup) (sourceArg : ℕ) (string : List ℕ) (targetArg : ℕ) → continued_outcome p m s sourceArg string targetArg ≡ Made → Continued (sound p) p m s sourceArg string targetArg
+pub continued-made : (p : Plan) (m : Maker) (s : Setup) (sourceArg : ℕ) (string : List ℕ) (targetArg : ℕ) → continued_outcome p m s sourceArg string targetArg ≡ Ok tt → Continued (sound p) p m s sourceArg string targetArg
 continued-made p m s sourceArg string targetArg e = continued-made-by (sound p) p m s sourceArg string targetArg e
 
 pub record Reversed (verdict : Bool) (p : Plan) (m : Maker) (s : Setup) (sourceArg : ℕ) (string : List ℕ) (targetArg : ℕ) : Type 0 where
@@ -123,7 +123,7 @@ pub record Reversed (verdict : Bool) (p : Plan) (m : Maker) (s : Setup) (sourceA
   pub another : not_own (turned s.region) (box_address m) sourceArg targetArg ≡ true
   pub both-legal : (legal sourceArg && legal targetArg) ≡ true
 
-pub reversed-made-by : (verdict : Bool) (p : Plan) (m : Maker) (s : Setup) (sourceArg : ℕ) (string : List ℕ) (targetArg : ℕ) → reversed_outcome_by verdict p m s sourceArg string targetArg ≡ Made → Reversed verdict p m s sourceArg string targetArg
+pub reversed-made-by : (verdict : Bool) (p : Plan) (m : Maker) (s : Setup) (sourceArg : ℕ) (string : List ℕ) (targetArg : ℕ) → reversed_outcome_by verdict p m s sourceArg string targetArg ≡ Ok tt → Reversed verdict p m s sourceArg string targetArg
 unfolding reversed_outcome_by
 reversed-made-by verdict p m s sourceArg string targetArg e =
     let e0 = e in
@@ -147,5 +147,5 @@ reversed-made-by verdict p m s sourceArg string targetArg e =
       both-legal = unless-passed (legal sourceArg && legal targetArg) AddressTooLarge _ e8;
     }
 
-pub reversed-made : (p : Plan) (m : Maker) (s : Setup) (sourceArg : ℕ) (string : List ℕ) (targetArg : ℕ) → reversed_outcome p m s sourceArg string targetArg ≡ Made → Reversed (sound p) p m s sourceArg string targetArg
+pub reversed-made : (p : Plan) (m : Maker) (s : Setup) (sourceArg : ℕ) (string : List ℕ) (targetArg : ℕ) → reversed_outcome p m s sourceArg string targetArg ≡ Ok tt → Reversed (sound p) p m s sourceArg string targetArg
 reversed-made p m s sourceArg string targetArg e = reversed-made-by (sound p) p m s sourceArg string targetArg e

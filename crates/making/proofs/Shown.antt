@@ -1,24 +1,21 @@
 -- What a plan shows of the box's address and of a stored setup's routing address is all that making a setup asks of it. Of any plan. Assumes nothing.
-use mathlib.Core.Path.{◌≡◌, refl, ap, ap₂, ◌∙◌}
+use Rattle.std.specs.Prelude.{Option, Some, None}
+use mathlib.Core.Path.{◌≡◌, refl, ap}
 use mathlib.Core.Bool.{Bool, true, not}
 use Prim.Native.Nat.{ℕ}
 use lib.Dec.{eqb}
-use Rattle.plan.specs.declared.Region.TheVariants.{Source, Target}
 use Rattle.plan.specs.declared.Subscriber.{Subscriber}
 use Rattle.plan.specs.declared.Types.{Types}
 use Rattle.plan.specs.declared.Plan.{Plan}
 use Rattle.plan.specs.declared.Seen.{Seen}
-use Rattle.plan.specs.declared.Found.{Found}
-use Rattle.plan.specs.declared.Found.TheVariants.{At, Nothing}
 use Rattle.plan.specs.Find.{lookup, holder_of, holder_at, seen}
-use Rattle.plan.proofs.Sight.{found-address-shown, nobody-address-shown, seen-types, seen-source, seen-target, seen-second}
+use Rattle.plan.proofs.Sight.{found-address-shown, nobody-address-shown, seen-types}
 use Rattle.zone.specs.declared.Zone.{Zone}
-use Rattle.zone.specs.Order.{zone_list, held}
+use Rattle.zone.specs.Order.{held, list_of}
 use Rattle.zone.specs.Answer.{zone_at}
 use Rattle.zone.proofs.Held.{held-list}
-use Rattle.zone.proofs.PlanZones.{zone-shown}
 use Rattle.setup.specs.declared.Setup.{Setup}
-use Rattle.setup.specs.Setups.{routing_address, list_of, fault_in, fault, faultless, well_formed}
+use Rattle.setup.specs.Setups.{routing_address, fault_in, fault, faultless, well_formed}
 use Rattle.making.specs.declared.Maker.{Maker}
 use Rattle.making.specs.declared.Maker.TheVariants.{Feature, Line, Trunk, Resource, Error}
 use Rattle.making.specs.Making.{box_address, kind_of, somebody, address_held}
@@ -29,17 +26,17 @@ module _ (p : Plan) (a : ℕ) where
   -- whether there is one
   pub somebody-shown : somebody (lookup p a) ≡ not (eqb (holder_at p a).address 0)
   somebody-shown = go (lookup p a) refl where
-    go : (f : Found) → lookup p a ≡ f → somebody f ≡ not (eqb (holder_at p a).address 0)
-    go (At i) e = rw (found-address-shown p a i e)
-    go Nothing e = rw (nobody-address-shown p a e)
+    go : (f : Option ℕ) → lookup p a ≡ f → somebody f ≡ not (eqb (holder_at p a).address 0)
+    go (Some i) e = rw (found-address-shown p a i e)
+    go None e = rw (nobody-address-shown p a e)
 
   -- and of which kind
   pub kind-shown : kind_of p (lookup p a) ≡ (holder_at p a).kind
   unfolding holder_at
   kind-shown = go (lookup p a) where
-    go : (f : Found) → kind_of p f ≡ (holder_of p f).kind
-    go (At i) = refl
-    go Nothing = refl
+    go : (f : Option ℕ) → kind_of p f ≡ (holder_of p f).kind
+    go (Some i) = refl
+    go None = refl
 
 -- 3, by the subscriber of the box's address
 abbrev pub held_by : Subscriber → Maker → Bool
@@ -56,19 +53,8 @@ held-shown p (Trunk a) e = rw (← e, kind-shown p a)
 held-shown p Resource e = refl
 held-shown p Error e = refl
 
--- ---- the zone of an address
-
 module _ (p : Plan) (first second : ℕ) {v : Seen} (e : seen p first second ≡ v) where
-  pub source-zone-seen : zone_at p Source second ≡ zone_list v.source_order v.second.source
-  source-zone-seen =
-      zone-shown p Source second ∙ ap₂ zone_list (seen-source p first second e) (ap (λ (s : Subscriber). s.source) (seen-second p first second e))
-
-  pub target-zone-seen : zone_at p Target second ≡ zone_list v.target_order v.second.target
-  target-zone-seen =
-      zone-shown p Target second ∙ ap₂ zone_list (seen-target p first second e) (ap (λ (s : Subscriber). s.target) (seen-second p first second e))
-
-  -- ---- the types
-
+  -- the types
   pub existing-seen : p.types.existing ≡ v.types.existing
   existing-seen = ap (λ (t : Types). t.existing) (seen-types p first second e)
 

@@ -1,4 +1,5 @@
 -- What new, continued and reversed make is well formed (manual 5.4 to 5.6). Assumes nothing.
+use Rattle.std.specs.Prelude.{Option, Some, None, Ok}
 use mathlib.Core.Path.{◌≡◌, refl, ap}
 use mathlib.Core.Logic.{⊎_elim}
 use mathlib.Core.Bool.{Bool, true, false, not, ◌&&◌, false≢true}
@@ -15,21 +16,18 @@ use Rattle.plan.specs.declared.Plan.{Plan}
 use Rattle.plan.specs.Parts.{legal, given}
 use Rattle.plan.proofs.Lookup.{lookup-not-given}
 use Rattle.zone.specs.declared.Zone.{Zone}
-use Rattle.zone.specs.Order.{held}
+use Rattle.zone.specs.Order.{held, list_of}
 use Rattle.zone.specs.Answer.{zone_at}
 use Rattle.zone.proofs.Held.{held-list}
 use Rattle.setup.specs.declared.Dialled.{Dialled}
 use Rattle.setup.specs.declared.Route.{Route}
 use Rattle.setup.specs.declared.Route.TheVariants.{Whole, Suffix, Listed}
-use Rattle.setup.specs.declared.Placing.{Placing}
-use Rattle.setup.specs.declared.Placing.TheVariants.{NoPlacing, PlacedBy}
 use Rattle.setup.specs.declared.Setup.{Setup}
 use Rattle.setup.specs.Dialling.{legal_string, dialled, string_of, legal_dialled}
-use Rattle.setup.specs.Setups.{routing, other, routing_address, list_of, end_part, outer_legal, in_range, list_fits, route_fits, placing_fits, well_formed}
+use Rattle.setup.specs.Setups.{routing, other, routing_address, end_part, outer_legal, in_range, list_fits, route_fits, placing_fits, well_formed}
 use Rattle.setup.proofs.Faults.{Kept, well-formed-of, well-formed-kept, dialled-legal, string-legal}
 use Rattle.making.specs.declared.Maker.{Maker}
 use Rattle.making.specs.declared.Maker.TheVariants.{Feature, Line, Trunk, Resource, Error}
-use Rattle.making.specs.declared.Outcome.TheVariants.{Made}
 use Rattle.making.specs.Making.{box_address, box_type, kind_of, somebody, makes_new, makes_more, address_held, or_kept, string_or, new_setup, further, continued_setup, turned, reversed_setup, is_list, new_outcome, continued_outcome, reversed_outcome}
 use Rattle.making.proofs.Outcomes.{new-made, continued-made, reversed-made}
 
@@ -65,7 +63,7 @@ legal-or a b la lb = ⊎_elim (λ (e : eqb a 0 ≡ true). rw e lb) (λ (e : eqb 
 
 -- ---- new
 
-pub new-well-formed : (p : Plan) (m : Maker) (string : List ℕ) (target : ℕ) → new_outcome p m string target ≡ Made
+pub new-well-formed : (p : Plan) (m : Maker) (string : List ℕ) (target : ℕ) → new_outcome p m string target ≡ Ok tt
     → well_formed p (new_setup (box_address m) string target) ≡ true
 unfolding new_setup in_range routing_address
 new-well-formed p m string target e =
@@ -82,7 +80,7 @@ new-well-formed p m string target e =
 -- ---- what continued and reversed setups share
 
 -- what is asked of the parts
-pub record Parts (p : Plan) (r : Region) (box sourceArg targetArg kept : ℕ) (string : Dialled) (route : Route) (list : Zone) (placing : Placing) : Type 0 where
+pub record Parts (p : Plan) (r : Region) (box sourceArg targetArg kept : ℕ) (string : Dialled) (route : Route) (list : Zone) (placing : Option ℕ) : Type 0 where
   pub box-given : given box ≡ true
   pub source-legal : legal sourceArg ≡ true
   pub target-legal : legal targetArg ≡ true
@@ -91,7 +89,7 @@ pub record Parts (p : Plan) (r : Region) (box sourceArg targetArg kept : ℕ) (s
   pub route-fits : route_fits route (list_fits (zone_at p r box) list) ≡ true
   pub placing-fits : placing_fits p.types.reversible route placing ≡ true
 
-further-well-formed : (p : Plan) (r : Region) (box sourceArg targetArg kept : ℕ) (string : Dialled) (route : Route) (list : Zone) (placing : Placing)
+further-well-formed : (p : Plan) (r : Region) (box sourceArg targetArg kept : ℕ) (string : Dialled) (route : Route) (list : Zone) (placing : Option ℕ)
     → Parts p r box sourceArg targetArg kept string route list placing
     → well_formed p (further r box sourceArg targetArg kept string route list placing) ≡ true
 unfolding further in_range routing_address
@@ -179,7 +177,7 @@ list-routed Suffix b i e = absurd (false≢true i)
 list-routed Listed b i e = e
 
 pub continued-well-formed : (p : Plan) (m : Maker) (s : Setup) (sourceArg : ℕ) (string : List ℕ) (targetArg : ℕ)
-    → continued_outcome p m s sourceArg string targetArg ≡ Made → well_formed p (continued_setup (box_address m) s sourceArg string targetArg) ≡ true
+    → continued_outcome p m s sourceArg string targetArg ≡ Ok tt → well_formed p (continued_setup (box_address m) s sourceArg string targetArg) ≡ true
 unfolding continued_setup
 continued-well-formed p m s sourceArg string targetArg e =
     let k = continued-made p m s sourceArg string targetArg e in
@@ -188,7 +186,7 @@ continued-well-formed p m s sourceArg string targetArg e =
     let fits : list_fits (zone_at p s.region (routing_address s)) s.list ≡ true =
     list-routed s.route (list_fits (zone_at p s.region (routing_address s)) s.list) (and_right (well_formed p s) (is_list s.route) k.from_list) stored.route in
     further-well-formed p s.region (box_address m) sourceArg targetArg (other s.region s.source s.target)
-    (dialled (string_or string (string_of s.dialled))) Listed (held (list_of s.list)) NoPlacing record {
+    (dialled (string_or string (string_of s.dialled))) Listed (held (list_of s.list)) None record {
       box-given = held-given p m (more-new m k.may-make) k.held-here;
       source-legal = and_left (legal sourceArg) (legal targetArg) k.both-legal;
       target-legal = and_right (legal sourceArg) (legal targetArg) k.both-legal;
@@ -201,13 +199,13 @@ continued-well-formed p m s sourceArg string targetArg e =
 -- ---- reversed
 
 pub reversed-well-formed : (p : Plan) (m : Maker) (s : Setup) (sourceArg : ℕ) (string : List ℕ) (targetArg : ℕ)
-    → reversed_outcome p m s sourceArg string targetArg ≡ Made → well_formed p (reversed_setup (box_type m) (box_address m) s sourceArg string targetArg) ≡ true
+    → reversed_outcome p m s sourceArg string targetArg ≡ Ok tt → well_formed p (reversed_setup (box_type m) (box_address m) s sourceArg string targetArg) ≡ true
 unfolding reversed_setup
 reversed-well-formed p m s sourceArg string targetArg e =
     let k = reversed-made p m s sourceArg string targetArg e in
     let stored = well-formed-kept p s k.well-formed in
     further-well-formed p (turned s.region) (box_address m) sourceArg targetArg (routing (turned s.region) s.source s.target)
-    (dialled (string_or string (string_of s.dialled))) Suffix (held []) (PlacedBy (box_type m)) record {
+    (dialled (string_or string (string_of s.dialled))) Suffix (held []) (Some (box_type m)) record {
       box-given = held-given p m (more-new m k.may-make) k.held-here;
       source-legal = and_left (legal sourceArg) (legal targetArg) k.both-legal;
       target-legal = and_right (legal sourceArg) (legal targetArg) k.both-legal;

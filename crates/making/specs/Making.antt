@@ -1,15 +1,11 @@
 -- The three ways to make a setup (manual 5.4 to 5.6), with what is refused: 23, then 1 to 9 in ascending order. Assumes nothing.
-use Rattle.std.specs.Prelude.{ℕ, Bool, true, false, not, ◌&&◌, ◌||◌, List, eqb}
+use Rattle.std.specs.Prelude.{ℕ, Bool, true, false, not, ◌&&◌, ◌||◌, List, eqb, Option, Some, None, Result, Ok, ⊤}
 use Rattle.typeset.specs.Sets.{has}
-use Rattle.refusal.specs.Numbers.{number_of, place_of}
-use Rattle.refusal.specs.declared.Place.{Place}
-use Rattle.refusal.specs.declared.Place.TheVariants.{Nowhere}
+use Rattle.refusal.specs.Numbers.{◌>>=◌, unless}
 use Rattle.refusal.specs.declared.Refusal.{Refusal}
 use Rattle.refusal.specs.declared.Refusal.TheVariants.{RuleBroken, NoSuchType, NotForThisBox, WrongAddress, NotReversible, Malformed, NotRoutedHere, BadString, OwnAddress, AddressTooLarge}
 use Rattle.plan.specs.declared.Region.{Region}
 use Rattle.plan.specs.declared.Plan.{Plan}
-use Rattle.plan.specs.declared.Found.{Found}
-use Rattle.plan.specs.declared.Found.TheVariants.{At, Nothing}
 use Rattle.plan.specs.Parts.{legal, at}
 use Rattle.plan.specs.Sound.{sound}
 use Rattle.plan.specs.Find.{lookup}
@@ -18,14 +14,10 @@ use Rattle.setup.specs.declared.Route.TheVariants.{Whole, Suffix, Listed}
 use Rattle.setup.specs.declared.Setup.{Setup}
 use Rattle.making.specs.declared.Maker.{Maker}
 use Rattle.making.specs.declared.Maker.TheVariants.{Feature, Line, Trunk, Resource, Error}
-use Rattle.making.specs.declared.Outcome.{Outcome}
-use Rattle.making.specs.declared.Outcome.TheVariants.{Made, Refused}
-use Rattle.making.specs.declared.Answer.{Answer}
 use Rattle.setup.specs.Dialling.{legal_string}
 use Rattle.setup.specs.Setups.{routing, routing_address, well_formed}
 pub use Rattle.made.specs.Made.{or_kept, string_or, outer_for, source_in, target_in, turned}
 unfoldable pub use Rattle.made.specs.Made.{new_setup, further, continued_setup, reversed_setup}
-unfoldable pub use Rattle.setup.specs.Setups.{blank as blank_setup}
 
 -- ---- the box that makes a setup (a resource or error box makes none, and an interface box has no type: the 0 beside them is never used)
 
@@ -44,13 +36,13 @@ box_type Resource = 0
 box_type Error = 0
 
 -- the kind of the subscriber at an address; 0 where there is none
-abbrev pub kind_of : Plan → Found → ℕ
-kind_of p (At i) = (at p.subscribers i).kind
-kind_of p Nothing = 0
+abbrev pub kind_of : Plan → Option ℕ → ℕ
+kind_of p (Some i) = (at p.subscribers i).kind
+kind_of p None = 0
 
-abbrev pub somebody : Found → Bool
-somebody (At i) = true
-somebody Nothing = false
+abbrev pub somebody : Option ℕ → Bool
+somebody (Some i) = true
+somebody None = false
 
 -- 1: a feature box whose type exists
 abbrev pub type_exists : Plan → Maker → Bool
@@ -85,16 +77,6 @@ address_held p Error = true
 
 -- ---- what is refused, by the verdict on the plan: whether it keeps its rules
 
--- refused with r where the test fails, else what follows
-abbrev pub unless : Bool → Refusal → Outcome → Outcome
-unless true r rest = rest
-unless false r rest = Refused r
-
--- the refusal there is; else refused with r where the test fails
-unfoldable pub but_first : Outcome → Bool → Refusal → Outcome
-but_first Made t r = unless t r Made
-but_first (Refused q) t r = Refused q
-
 -- 5: a route that is a list
 abbrev pub is_list : Route → Bool
 is_list Whole = false
@@ -106,20 +88,20 @@ unfoldable pub not_own : Region → ℕ → ℕ → ℕ → Bool
 not_own r box sourceArg targetArg = eqb (routing r sourceArg targetArg) 0 || not (eqb (routing r sourceArg targetArg) box)
 
 -- 23, 1, 2, 3, 7, 9
-unfoldable pub new_outcome_by : Bool → Plan → Maker → List ℕ → ℕ → Outcome
+unfoldable pub new_outcome_by : Bool → Plan → Maker → List ℕ → ℕ → Result ⊤ Refusal
 new_outcome_by kept p m string targetArg =
     unless kept (RuleBroken 0)
     (unless (type_exists p m) NoSuchType
     (unless (makes_new m) NotForThisBox
     (unless (address_held p m) WrongAddress
     (unless (legal_string string) BadString
-    (unless (legal targetArg) AddressTooLarge Made)))))
+    (unless (legal targetArg) AddressTooLarge (Ok tt))))))
 
-abbrev pub new_outcome : Plan → Maker → List ℕ → ℕ → Outcome
+abbrev pub new_outcome : Plan → Maker → List ℕ → ℕ → Result ⊤ Refusal
 new_outcome p m string targetArg = new_outcome_by (sound p) p m string targetArg
 
 -- 23, 1, 2, 3, 5, 6, 7, 8, 9
-unfoldable pub continued_outcome_by : Bool → Plan → Maker → Setup → ℕ → List ℕ → ℕ → Outcome
+unfoldable pub continued_outcome_by : Bool → Plan → Maker → Setup → ℕ → List ℕ → ℕ → Result ⊤ Refusal
 continued_outcome_by kept p m s sourceArg string targetArg =
     unless kept (RuleBroken 0)
     (unless (type_exists p m) NoSuchType
@@ -129,13 +111,13 @@ continued_outcome_by kept p m s sourceArg string targetArg =
     (unless (eqb (routing_address s) (box_address m)) NotRoutedHere
     (unless (legal_string string) BadString
     (unless (not_own s.region (box_address m) sourceArg targetArg) OwnAddress
-    (unless (legal sourceArg && legal targetArg) AddressTooLarge Made))))))))
+    (unless (legal sourceArg && legal targetArg) AddressTooLarge (Ok tt)))))))))
 
-abbrev pub continued_outcome : Plan → Maker → Setup → ℕ → List ℕ → ℕ → Outcome
+abbrev pub continued_outcome : Plan → Maker → Setup → ℕ → List ℕ → ℕ → Result ⊤ Refusal
 continued_outcome p m s sourceArg string targetArg = continued_outcome_by (sound p) p m s sourceArg string targetArg
 
 -- 23, 1, 2, 3, 4, 5, 7, 8, 9
-unfoldable pub reversed_outcome_by : Bool → Plan → Maker → Setup → ℕ → List ℕ → ℕ → Outcome
+unfoldable pub reversed_outcome_by : Bool → Plan → Maker → Setup → ℕ → List ℕ → ℕ → Result ⊤ Refusal
 reversed_outcome_by kept p m s sourceArg string targetArg =
     unless kept (RuleBroken 0)
     (unless (type_exists p m) NoSuchType
@@ -145,44 +127,33 @@ reversed_outcome_by kept p m s sourceArg string targetArg =
     (unless (well_formed p s) Malformed
     (unless (legal_string string) BadString
     (unless (not_own (turned s.region) (box_address m) sourceArg targetArg) OwnAddress
-    (unless (legal sourceArg && legal targetArg) AddressTooLarge Made))))))))
+    (unless (legal sourceArg && legal targetArg) AddressTooLarge (Ok tt)))))))))
 
-abbrev pub reversed_outcome : Plan → Maker → Setup → ℕ → List ℕ → ℕ → Outcome
+abbrev pub reversed_outcome : Plan → Maker → Setup → ℕ → List ℕ → ℕ → Result ⊤ Refusal
 reversed_outcome p m s sourceArg string targetArg = reversed_outcome_by (sound p) p m s sourceArg string targetArg
 
--- ---- what is answered: the setup, or the refusal and a blank setup beside it
+-- ---- what is answered: the setup, or the refusal
 
-unfoldable pub answered : Outcome → Setup → Answer
-answered Made s = record { outcome = Made; setup = s }
-answered (Refused r) s = record { outcome = Refused r; setup = blank_setup }
+abbrev pub answered : Result ⊤ Refusal → Setup → Result Setup Refusal
+answered outcome s = outcome >>= λ made. Ok s
 
 -- what the three ways answer
-abbrev pub new_answer_by : Bool → Plan → Maker → List ℕ → ℕ → Answer
+abbrev pub new_answer_by : Bool → Plan → Maker → List ℕ → ℕ → Result Setup Refusal
 new_answer_by kept p m string targetArg = answered (new_outcome_by kept p m string targetArg) (new_setup (box_address m) string targetArg)
 
-abbrev pub new_answer : Plan → Maker → List ℕ → ℕ → Answer
+abbrev pub new_answer : Plan → Maker → List ℕ → ℕ → Result Setup Refusal
 new_answer p m string targetArg = new_answer_by (sound p) p m string targetArg
 
-abbrev pub continued_answer_by : Bool → Plan → Maker → Setup → ℕ → List ℕ → ℕ → Answer
+abbrev pub continued_answer_by : Bool → Plan → Maker → Setup → ℕ → List ℕ → ℕ → Result Setup Refusal
 continued_answer_by kept p m s sourceArg string targetArg =
     answered (continued_outcome_by kept p m s sourceArg string targetArg) (continued_setup (box_address m) s sourceArg string targetArg)
 
-abbrev pub continued_answer : Plan → Maker → Setup → ℕ → List ℕ → ℕ → Answer
+abbrev pub continued_answer : Plan → Maker → Setup → ℕ → List ℕ → ℕ → Result Setup Refusal
 continued_answer p m s sourceArg string targetArg = continued_answer_by (sound p) p m s sourceArg string targetArg
 
-abbrev pub reversed_answer_by : Bool → Plan → Maker → Setup → ℕ → List ℕ → ℕ → Answer
+abbrev pub reversed_answer_by : Bool → Plan → Maker → Setup → ℕ → List ℕ → ℕ → Result Setup Refusal
 reversed_answer_by kept p m s sourceArg string targetArg =
     answered (reversed_outcome_by kept p m s sourceArg string targetArg) (reversed_setup (box_type m) (box_address m) s sourceArg string targetArg)
 
-abbrev pub reversed_answer : Plan → Maker → Setup → ℕ → List ℕ → ℕ → Answer
+abbrev pub reversed_answer : Plan → Maker → Setup → ℕ → List ℕ → ℕ → Result Setup Refusal
 reversed_answer p m s sourceArg string targetArg = reversed_answer_by (sound p) p m s sourceArg string targetArg
-
--- what an outcome is in document 01's numbers: 0 for a setup that was made, else the number of the refusal
-abbrev pub number_of_outcome : Outcome → ℕ
-number_of_outcome Made = 0
-number_of_outcome (Refused r) = number_of r
-
--- and its place, which 23 alone has here
-abbrev pub place_of_outcome : Outcome → Place
-place_of_outcome Made = Nowhere
-place_of_outcome (Refused r) = place_of r

@@ -32,15 +32,17 @@ transitive rows =
 unfoldable pub two_of : ℕ → ℕ → ℕ → Bool
 two_of s a b = has a s && has b s && not (eqb a b)
 
+-- any two types of the set s pass the test
+abbrev pub any_two : ℕ → (ℕ → ℕ → Bool) → Bool
+any_two s test = every 32 (λ a. every 32 (λ b. implies (two_of s a b) (test a b)))
+
 -- L8: any two reversible types are ordered in the source order
 unfoldable pub reversible_ordered : ℕ → List ℕ → Bool
-reversible_ordered reversible source =
-    every 32 (λ a. every 32 (λ b. implies (two_of reversible a b) (precedes source a b || precedes source b a)))
+reversible_ordered reversible source = any_two reversible (λ a b. precedes source a b || precedes source b a)
 
 -- L9: and the other way round in the target order
 unfoldable pub reversible_opposed : ℕ → List ℕ → List ℕ → Bool
-reversible_opposed reversible source target =
-    every 32 (λ a. every 32 (λ b. implies (two_of reversible a b) (same (precedes source a b) (precedes target b a))))
+reversible_opposed reversible source target = any_two reversible (λ a b. same (precedes source a b) (precedes target b a))
 
 -- L2 to L5
 unfoldable pub order_sound : ℕ → List ℕ → Bool

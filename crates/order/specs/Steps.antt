@@ -1,7 +1,6 @@
 -- What the small functions of an order's test answer: a rule at one type, or at one pair of types. Assumes nothing.
-use Rattle.std.specs.Prelude.{ℕ, Bool, not, ◌&&◌, ◌||◌, List, eqb, get_or}
-use Rattle.typeset.specs.Sets.{has, every, within, implies, same}
-use Rattle.order.specs.Rules.{precedes, two_of}
+use Rattle.std.specs.Prelude.{ℕ, ◌≡◌, Bool, not, ◌&&◌, ◌||◌, List, eqb, get_or}
+use Rattle.typeset.specs.Sets.{has, every, within, implies}
 
 -- ---- L5: a row that holds b holds whatever b comes before; so for each b
 unfoldable pub carries : List ℕ → ℕ → ℕ → Bool
@@ -20,15 +19,6 @@ row_sound chosen rows t =
     within (get_or rows t 0) chosen && empty_unless chosen t (get_or rows t 0) && not (has t (get_or rows t 0))
     && closed rows (get_or rows t 0)
 
--- ---- L8 and L9 at the types a and b, and at a
-unfoldable pub pair_ordered : ℕ → List ℕ → ℕ → ℕ → Bool
-pair_ordered reversible source a b = implies (two_of reversible a b) (precedes source a b || precedes source b a)
-
-unfoldable pub ordered_at : ℕ → List ℕ → ℕ → Bool
-ordered_at reversible source a = every 32 (pair_ordered reversible source a)
-
-unfoldable pub pair_opposed : ℕ → List ℕ → List ℕ → ℕ → ℕ → Bool
-pair_opposed reversible source target a b = implies (two_of reversible a b) (same (precedes source a b) (precedes target b a))
-
-unfoldable pub opposed_at : ℕ → List ℕ → List ℕ → ℕ → Bool
-opposed_at reversible source target a = every 32 (pair_opposed reversible source target a)
+-- ---- what a test of pairs answers, where each call of it answers what a law says: r is what the whole says of that law
+abbrev pub Tests : (ℕ → ℕ → Bool → Type 0) → ((ℕ → ℕ → Bool) → Bool) → Bool → Type 0
+Tests answers whole r = (law : ℕ → ℕ → Bool) → ((x y : ℕ) (b : Bool) → answers x y b → b ≡ law x y) → r ≡ whole law

@@ -7,25 +7,19 @@ use lib.Dec.{eqb}
 use lib.ListN.{get_or}
 use borrow.Author.Tests.{lt-ltb}
 use Rattle.typeset.specs.Sets.{least}
-use Rattle.typeset.proofs.Below.{least-found, least-none}
+use Rattle.typeset.proofs.Below.{least-found}
 use Rattle.plan.specs.declared.Plan.{Plan}
 use Rattle.plan.specs.declared.Seen.{Seen}
 use Rattle.plan.specs.Find.{seen}
 use Rattle.owners.specs.Who.{pair_of, owner_in, who_by, who_of}
 
-module _ (owners : List ℕ) (a : ℕ) where
-  pub pair_found : (i : ℕ) → ((j : ℕ) → j < i → eqb (get_or owners (2 * j) 0) a ≡ false) → i < 256 → eqb (get_or owners (2 * i) 0) a ≡ true
-      → get_or owners (2 * i + 1) 0 ≡ owner_in owners a
-  unfolding owner_in pair_of
-  pair_found i f h e =
-      let at : least 256 (λ j. eqb (get_or owners (2 * j) 0) a) ≡ i = least-found 256 (λ j. eqb (get_or owners (2 * j) 0) a) i f h e in
-      rw (at, lt-ltb i 256 h)
-
-  pub pair-none : ((j : ℕ) → j < 256 → eqb (get_or owners (2 * j) 0) a ≡ false) → 0 ≡ owner_in owners a
-  unfolding owner_in pair_of
-  pair-none f =
-      let at : least 256 (λ j. eqb (get_or owners (2 * j) 0) a) ≡ 256 = least-none 256 (λ j. eqb (get_or owners (2 * j) 0) a) f in
-      rw at
+-- the owner of an address is the customer of the first pair that has it
+pub pair_found : (owners : List ℕ) (a i : ℕ) → ((j : ℕ) → j < i → eqb (get_or owners (2 * j) 0) a ≡ false) → i < 256 → eqb (get_or owners (2 * i) 0) a ≡ true
+    → get_or owners (2 * i + 1) 0 ≡ owner_in owners a
+unfolding owner_in pair_of
+pair_found owners a i f h e =
+    let at : least 256 (λ j. eqb (get_or owners (2 * j) 0) a) ≡ i = least-found 256 (λ j. eqb (get_or owners (2 * j) 0) a) i f h e in
+    rw (at, lt-ltb i 256 h)
 
 -- by what a plan shows of the address
 pub by-shown : (p : Plan) (features owners : List ℕ) (t a : ℕ) (v : Seen) → v ≡ seen p a 0 → who_by v.types.existing v.first.kind features owners t a ≡ who_of p features owners t a

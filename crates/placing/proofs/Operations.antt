@@ -1,4 +1,5 @@
 -- The theorems on the public operations of a row and of a port (specs/Operations.antt). Assumes nothing.
+use Rattle.std.specs.Prelude.{Result, Ok, Err, ⊤}
 use Prim.Native.Nat.{ℕ, zero, suc, ◌≤◌, ◌<◌}
 use mathlib.Core.Path.{◌≡◌, refl, sym, ◌∙◌, ap, subst}
 use mathlib.Core.Logic.{◌⊎◌, inl, inr, ⊎_elim, ◌≢◌}
@@ -11,38 +12,35 @@ use lib.Dec.{T as Holds, ltb, eqb}
 use borrow.Author.Tests.{le-ltb, lt-ltb, ltb-true, ltb-false, eq-eqb, ne_eqb, eqb-true, eqb-false}
 use Rattle.refusal.specs.declared.Refusal.{Refusal}
 use Rattle.refusal.specs.declared.Refusal.TheVariants.{NoSuchCall, RowTooLong, NoFreeRecord, RuleBroken, Malformed, ListTooShort}
-use Rattle.refusal.specs.Numbers.{number_of}
+use Rattle.refusal.specs.Numbers.{number_of, number_said}
 use Rattle.plan.specs.declared.Plan.{Plan}
 use Rattle.plan.specs.Sound.{sound}
 use Rattle.setup.specs.declared.Setup.{Setup}
 use Rattle.routing.specs.declared.Callee.{Callee}
-use Rattle.routing.specs.declared.Later.{Later}
-use Rattle.routing.specs.declared.Later.TheVariants.{Nothing, Refuse}
-use Rattle.routing.specs.declared.Outcome.{Outcome}
-use Rattle.routing.specs.declared.Outcome.TheVariants.{Routed, Refused}
-use Rattle.routing.specs.Routing.{settled as firstRefusal, outcome, answer, number_of_outcome}
+use Rattle.routing.specs.Routing.{settled as firstRefusal, outcome, answer, answer_by, answered as routing-answered}
 use Rattle.routing.proofs.Zoned.{settled-refusal, list-refused, list-routed}
 use Rattle.call.specs.declared.Call.{Call}
 use Rattle.call.specs.declared.Command.{Command}
 use Rattle.call.specs.Protocol.{is_free, step, number_in, placed, cleared, next_use}
-use Rattle.call.specs.Row.{Act, place, command, Turn, record_at, lowest_free, named, refuses, place_at, put, turn, turns, Event, placing as new-call, doing, lives, own}
+use Rattle.call.specs.Row.{Act, place, command, Turn, record_at, lowest_free, named, refuses, put, turn, turns, Event, placing as new-call, doing, lives, own}
 use Rattle.teardown.specs.Teardown.{PlacedLowest}
 use Rattle.teardown.proofs.Row.{turns-length, lives-append, by_its_own, placing-law, lives-commands, lived-not-17, lived-fit, turn-not-17, demand3_in_row, uses_come_round}
 use Rattle.teardown.proofs.Media.{none_twice}
 use Rattle.teardown.proofs.Theorem.{no_deadlock, in_order, demand3 as demand3-of-record}
-use Rattle.placing.specs.declared.Placed.{Placed}
-use Rattle.placing.specs.Rows.{later_for, outcome_in, answer_in, turned, answered, placed_in, row_after}
+use Rattle.routing.specs.declared.Routed.{Routed}
+use Rattle.routing.specs.Steps.{received_of, left_of}
+use Rattle.placing.specs.Rows.{later_for, outcome_in, answer_in, turned, answered, row_after}
 use Rattle.placing.specs.Operations.{Operation, placing, commanding, row_of, number_for, PortOperation, placing_there, commanding_it, port_of, port_number, Use, operating, lending, clearing, used, PortUse, operating_it, clearing_it, port_used, Never17, PortNever17, HeadsFit, NeverUnfit, PortNoneTwice, act_by, act_of, acts_of, AsActs, Demand3, event_by, event_of, events_of, AsEvents, NoneInUse, CallsInPort, PortReached, PortNoDeadlock, PortInOrder, PortDemand3, PlacesLowest, Placing, OldNames}
-use Rattle.placing.proofs.Settles.{routing-to, refusing-by, came-by, places, port-places}
+use Rattle.placing.proofs.Settles.{routing-to, refusing-by, came-by, later, places, port-places}
 
 -- ---- what an operation does is what its acts do
 turns-append : (row : List Call) (xs ys : List Act) → turns row (xs ++ ys) ≡ turns (turns row xs) ys
 turns-append row [] ys = refl
 turns-append row (x ∷ xs) ys = turns-append (turn row x).row xs ys
 
-turned-acts : (row : List Call) (o : Outcome) → (turned row o).row ≡ turns row (act_by o)
-turned-acts row (Routed c) = refl
-turned-acts row (Refused x) = refl
+turned-acts : (row : List Call) (o : (Result Callee Refusal)) → (turned row o).row ≡ turns row (act_by o)
+turned-acts row (Ok c) = refl
+turned-acts row (Err x) = refl
 
 as-act : (row : List Call) (x : Operation) → row_of row x ≡ turns row (act_of row x)
 as-act row (placing p s n m) = turned-acts row (outcome_in row p s n m)
@@ -59,7 +57,7 @@ as-event c (placing_there p s n m) = elim (came-by (sound p) (c ∷ []) p s n m)
   | refusing-by x e ↦ subst By (sym e) refl
 ]
   where
-    By : Outcome → Type 0
+    By : Result Callee Refusal → Type 0
     By o = record_at (turned (c ∷ []) o).row 0 ≡ lives c (event_by o)
 as-event c (commanding_it k) = refl
 
@@ -68,12 +66,12 @@ as-events c [] = refl
 as-events c (x ∷ xs) = as-events (port_of c x) xs ∙ ap (λ (z : Call). lives z (events_of (port_of c x) xs)) (as-event c x) ∙ sym (lives-append c (event_of c x) (events_of (port_of c x) xs))
 
 -- ---- 17 never
-abbrev refusal_in : Refusal → Later → Refusal
-refusal_in x Nothing = x
-refusal_in x (Refuse y) = y
+abbrev refusal_in : Refusal → Result ⊤ Refusal → Refusal
+refusal_in x (Ok _) = x
+refusal_in x (Err y) = y
 
 -- the row's own refusal is 16 or 11
-by_row : (long free : Bool) (x : Refusal) → cond long (Refuse RowTooLong) (cond free Nothing (Refuse NoFreeRecord)) ≡ Refuse x → (x ≡ RowTooLong) ⊎ (x ≡ NoFreeRecord)
+by_row : (long free : Bool) (x : Refusal) → later long free ≡ Err x → (x ≡ RowTooLong) ⊎ (x ≡ NoFreeRecord)
 by_row true free x e = inl (sym (ap (refusal_in RowTooLong) e))
 by_row false true x e = inl (sym (ap (refusal_in RowTooLong) e))
 by_row false false x e = inr (sym (ap (refusal_in NoFreeRecord) e))
@@ -84,15 +82,15 @@ other a f e = true≢false (sym (ap (λ (b : ℕ). eqb b 17) e) ∙ f)
 not-17 : (x y : Refusal) → eqb (number_of y) 17 ≡ false → x ≡ y → number_of x ≢ 17
 not-17 x y f e = other (number_of x) (ap (λ (z : Refusal). eqb (number_of z) 17) e ∙ f)
 
-placing-number : (row : List Call) (p : Plan) (s : Setup) (n m : ℕ) → number_of_outcome (outcome_in row p s n m) ≢ 17
+placing-number : (row : List Call) (p : Plan) (s : Setup) (n m : ℕ) → number_said (outcome_in row p s n m) ≢ 17
 placing-number row p s n m = by (firstRefusal p s (later_for row) n m) refl
   where
-    by : (l : Later) → firstRefusal p s (later_for row) n m ≡ l → number_of_outcome (outcome_in row p s n m) ≢ 17
-    by Nothing e = subst (λ (o : Outcome). number_of_outcome o ≢ 17) (sym (list-routed (sound p) p s (later_for row) n m e)) (other 0 refl)
-    by (Refuse x) e =
-        subst (λ (o : Outcome). number_of_outcome o ≢ 17) (sym (list-refused (sound p) p s (later_for row) n m x e))
+    by : (l : (Result ⊤ Refusal)) → firstRefusal p s (later_for row) n m ≡ l → number_said (outcome_in row p s n m) ≢ 17
+    by (Ok _) e = subst (λ (o : (Result Callee Refusal)). number_said o ≢ 17) (sym (list-routed (sound p) p s (later_for row) n m e)) (other 0 refl)
+    by (Err x) e =
+        subst (λ (o : (Result Callee Refusal)). number_said o ≢ 17) (sym (list-refused (sound p) p s (later_for row) n m x e))
         (⊎_elim (not-17 x (RuleBroken 0) refl) (⊎_elim (not-17 x Malformed refl) (⊎_elim (not-17 x ListTooShort refl)
-        (λ (l : later_for row ≡ Refuse x). ⊎_elim (not-17 x RowTooLong refl) (not-17 x NoFreeRecord refl) (by_row (ltb 1024 (length row)) (ltb (lowest_free row) (length row)) x l))))
+        (λ (l : later_for row ≡ Err x). ⊎_elim (not-17 x RowTooLong refl) (not-17 x NoFreeRecord refl) (by_row (ltb 1024 (length row)) (ltb (lowest_free row) (length row)) x l))))
         (settled-refusal (sound p) p s (later_for row) n m x e))
 
 -- What the operations make of a record that began cleared: what placings and commands, since it was last cleared, lead to.
@@ -178,48 +176,45 @@ pub port-never17 : PortNever17
 port-never17 before x = port-number (port_used cleared before) (port-used-led cleared ([], refl) before) x
 
 -- ---- placing
-abbrev is_routed : Outcome → Bool
-is_routed (Routed c) = true
-is_routed (Refused x) = false
+abbrev is_routed : Result Callee Refusal → Bool
+is_routed (Ok c) = true
+is_routed (Err x) = false
 
-routed-refused : (c : Callee) (x : Refusal) → Routed c ≡ Refused x → ⊥
+routed-refused : (c : Callee) (x : Refusal) → Ok c ≡ Err x → ⊥
 routed-refused c x e = true≢false (ap is_routed e)
 
-module _ (row : List Call) (p : Plan) (s : Setup) (n m : ℕ) (c : Callee) (e : outcome_in row p s n m ≡ Routed c) where
-  abbrev z : Placed
-  z = placed_in row p s n m
-
-  nothing-later : later_for row ≡ Nothing
-  nothing-later = elim (came-by (sound p) row p s n m) as (λ _. later_for row ≡ Nothing) [ routing-to b free q ↦ free | refusing-by x q ↦ absurd (routed-refused c x (sym e ∙ q)) ]
-
-  turned-is : turned row (outcome_in row p s n m) ≡ place_at row (lowest_free row)
-  turned-is = ap (turned row) e ∙ places row nothing-later
-
-  answer-is : z ≡ answered (place_at row (lowest_free row)).reply (answer_in row p s n m)
-  answer-is = ap (λ (t : Turn). answered t.reply (answer_in row p s n m)) turned-is
+module _ (row : List Call) (p : Plan) (s : Setup) (n m : ℕ) (c : Callee) (e : outcome_in row p s n m ≡ Ok c) where
+  nothing-later : later_for row ≡ Ok tt
+  nothing-later = elim (came-by (sound p) row p s n m) as (λ _. later_for row ≡ (Ok tt)) [ routing-to b free q ↦ free | refusing-by x q ↦ absurd (routed-refused c x (sym e ∙ q)) ]
 
   abbrev r : ℕ
   r = lowest_free row
 
-  record_is : z.record_number ≡ r
-  record_is = ap (λ (a : Placed). a.record_number) answer-is
-
-  use_is : z.use_number ≡ next_use (record_at row r).use_number
-  use_is = ap (λ (a : Placed). a.use_number) answer-is
+  abbrev u : ℕ
+  u = next_use (record_at row r).use_number
 
   row_is : row_after row p s n m ≡ (turn row place).row
-  row_is = ap (λ (o : Outcome). (turned row o).row) e
+  row_is = ap (λ (o : (Result Callee Refusal)). (turned row o).row) e
 
-  lowest-is : PlacedLowest row r (next_use (record_at row r).use_number) (turn row place).row
-  lowest-is = placing-law row r (next_use (record_at row r).use_number) (ap (λ (t : Turn). t.reply) (places row nothing-later))
+  lowest-is : PlacedLowest row r u (turn row place).row
+  lowest-is = placing-law row r u (ap (λ (t : Turn). t.reply) (places row nothing-later))
+
+  -- what routing gave
+  abbrev a : Routed
+  a = record { callee = c; setup = received_of p s; left = left_of p s }
+
+  answer-is : answer_in row p s n m ≡ Ok a
+  unfolding answer_by
+  answer-is = ap (λ (o : Result Callee Refusal). routing-answered o (received_of p s) (left_of p s)) e
 
   places-lowest : PlacesLowest row p s n m
   places-lowest = record {
-    lowest = subst (λ (j : ℕ). PlacedLowest row j z.use_number (row_after row p s n m)) (sym record_is)
-        (subst (λ (u : ℕ). PlacedLowest row r u (row_after row p s n m)) (sym use_is) (subst (PlacedLowest row r (next_use (record_at row r).use_number)) (sym row_is) lowest-is));
-    stepped = use_is ∙ ap (λ (j : ℕ). next_use (record_at row j).use_number) (sym record_is);
-    as_routing = ap (λ (a : Placed). a.routed) answer-is ∙ ap (λ (l : Later). answer p s l n m) nothing-later;
-    as_routed = ap (λ (l : Later). outcome p s l n m) nothing-later;
+    given = record { record_number = r; use_number = u; routed = a };
+    given_is = ap (answered row) answer-is;
+    lowest = subst (PlacedLowest row r u) (sym row_is) lowest-is;
+    stepped = refl;
+    as_routing = sym answer-is ∙ ap (λ (l : (Result ⊤ Refusal)). answer p s l n m) nothing-later;
+    as_routed = ap (λ (l : (Result ⊤ Refusal)). outcome p s l n m) nothing-later;
   }
 
 pub placing-lowest : Placing
@@ -228,7 +223,7 @@ placing-lowest = places-lowest
 -- ---- the third demand
 pub demand3 : Demand3
 demand3 row p s n m r u xs before k later first-is first =
-    (as-acts row (placing p s n m ∷ xs) ∙ ap (λ (o : Outcome). turns row (act_by o ++ acts_of (row_after row p s n m) xs)) first-is.routed, demand3_in_row row r u (acts_of (row_after row p s n m) xs) before k later first)
+    (as-acts row (placing p s n m ∷ xs) ∙ ap (λ (o : (Result Callee Refusal)). turns row (act_by o ++ acts_of (row_after row p s n m) xs)) first-is.routed, demand3_in_row row r u (acts_of (row_after row p s n m) xs) before k later first)
 
 -- ---- a call in a port
 held-true : (b : Bool) → Holds b → b ≡ true
@@ -241,10 +236,10 @@ none-in-use c p s n m busy = elim (came-by (sound p) (c ∷ []) p s n m) as (λ 
   | refusing-by x e ↦ subst None (sym e) (refl, refl)
 ]
   where
-    None : Outcome → Type 0
+    None : Result Callee Refusal → Type 0
     None o = (event_by o ≡ []) × (record_at (turned (c ∷ []) o).row 0 ≡ c)
 
-    in_use : (free : Bool) → Holds (not free) → cond (ltb (cond free 0 1) 1) Nothing (Refuse NoFreeRecord) ≡ Nothing → ⊥
+    in_use : (free : Bool) → Holds (not free) → later false (ltb (cond free 0 1) 1) ≡ Ok tt → ⊥
     in_use true busy e = busy
     in_use false busy e = let z : ◌≡◌ {A = ℕ} 0 1 = cc in omega arith
 

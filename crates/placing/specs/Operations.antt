@@ -1,13 +1,11 @@
 -- The public operations on a lent row and on a lent port, one after the other, refused ones included; and what holds of a row or a port to which nothing else was done. The statements are proved in proofs/Operations.antt. Assumes nothing.
-use Rattle.std.specs.Prelude.{ℕ, ◌≤◌, ◌<◌, ◌≡◌, ◌≢◌, List, [], ◌∷◌, ◌++◌, map, T, true, false, not, length, set, replicate}
+use Rattle.std.specs.Prelude.{ℕ, ◌≤◌, ◌<◌, ◌≡◌, ◌≢◌, List, [], ◌∷◌, ◌++◌, map, T, true, false, not, length, set, replicate, Result, Ok, Err}
 use Rattle.refusal.specs.declared.Refusal.TheVariants.{NoSuchCall}
 use Rattle.plan.specs.declared.Plan.{Plan}
 use Rattle.setup.specs.declared.Setup.{Setup}
 use Rattle.routing.specs.declared.Callee.{Callee}
-use Rattle.routing.specs.declared.Later.TheVariants.{Nothing}
-use Rattle.routing.specs.declared.Outcome.{Outcome}
-use Rattle.routing.specs.declared.Outcome.TheVariants.{Routed, Refused}
-use Rattle.routing.specs.Routing.{outcome, answer, number_of_outcome}
+use Rattle.refusal.specs.Numbers.{number_said}
+use Rattle.routing.specs.Routing.{outcome, answer}
 use Rattle.call.specs.declared.Call.{Call}
 use Rattle.call.specs.declared.Command.{Command}
 use Rattle.call.specs.Row.{Act, place, command, record_at, refuses, put, turn, turns, number_of_reply, Event, placing as new-call, doing, lives, own, placings}
@@ -20,7 +18,9 @@ use Rattle.call.specs.Protocol.{actor, other, end_of, waiting, is_free, step, nu
 use Rattle.call.specs.History.{allows, after, sent, received, sent_of}
 use Rattle.teardown.specs.Media.{open_in}
 use Rattle.teardown.specs.Teardown.{FirstTeardown, Closes, OfFour, PlacedLowest, FirstTeardownIn, ClosesIn}
+use Rattle.placing.specs.declared.Placed.{Placed}
 use Rattle.placing.specs.Rows.{outcome_in, placed_in, row_after}
+use Rattle.refusal.specs.declared.Refusal.{Refusal}
 
 -- a placing of a setup under a plan, with n and m places in the two lists; or a command for a record and a use number
 pub data Operation : Type 0 where
@@ -33,7 +33,7 @@ row_of row (placing p s n m) = row_after row p s n m
 row_of row (commanding r u k) = (turn row (command r u k)).row
 
 abbrev pub number_for : List Call → Operation → ℕ
-number_for row (placing p s n m) = number_of_outcome (outcome_in row p s n m)
+number_for row (placing p s n m) = number_said (outcome_in row p s n m)
 number_for row (commanding r u k) = number_of_reply (turn row (command r u k)).reply
 
 abbrev pub rows_of : List Call → List Operation → List Call
@@ -50,7 +50,7 @@ port_of c (placing_there p s n m) = record_at (row_after (c ∷ []) p s n m) 0
 port_of c (commanding_it k) = (step c k).call
 
 abbrev pub port_number : Call → PortOperation → ℕ
-port_number c (placing_there p s n m) = number_of_outcome (outcome_in (c ∷ []) p s n m)
+port_number c (placing_there p s n m) = number_said (outcome_in (c ∷ []) p s n m)
 port_number c (commanding_it k) = number_in (step c k).answer
 
 -- A row may be placed in, commanded, cleared, or have one record used as a port. Storing a record by hand (`exchange::store`) is not counted: it could put in a record that no call ever led to.
@@ -94,9 +94,9 @@ pub record NeverUnfit : Type 0 where
   pub in_port : (before : List PortUse) → HeadsFit (port_used cleared before)
 
 -- THE CALL'S THEOREMS HOLD OF THESE OPERATIONS: what they do to a row is what the acts do that the call's own theorems speak of. A placing that is refused is no act.
-abbrev pub act_by : Outcome → List Act
-act_by (Routed c) = place ∷ []
-act_by (Refused x) = []
+abbrev pub act_by : Result Callee Refusal → List Act
+act_by (Ok c) = place ∷ []
+act_by (Err x) = []
 
 abbrev pub act_of : List Call → Operation → List Act
 act_of row (placing p s n m) = act_by (outcome_in row p s n m)
@@ -112,9 +112,11 @@ AsActs = (row : List Call) (xs : List Operation) → rows_of row xs ≡ turns ro
 -- THE THIRD DEMAND of every call: a call is placed, whatever the row held before, and answered with record r and use number u; then come any operations, of which those on r are the commands before, k, later, and k sends the first teardown.
 pub record CallPlaced (row : List Call) (p : Plan) (s : Setup) (n m r u : ℕ) : Type 0 where
   pub callee : Callee
-  pub routed : outcome_in row p s n m ≡ Routed callee
-  pub record_is : (placed_in row p s n m).record_number ≡ r
-  pub use_is : (placed_in row p s n m).use_number ≡ u
+  pub routed : outcome_in row p s n m ≡ Ok callee
+  pub given : Placed
+  pub given_is : placed_in row p s n m ≡ Ok given
+  pub record_is : given.record_number ≡ r
+  pub use_is : given.use_number ≡ u
 
 abbrev pub Demand3 : Type 0
 Demand3 =
@@ -123,9 +125,9 @@ Demand3 =
     → (rows_of row (placing p s n m ∷ xs) ≡ turns row (place ∷ acts_of (row_after row p s n m) xs)) × ClosesIn row r u (acts_of (row_after row p s n m) xs) before k later
 
 -- A PORT: what its operations do is what these events do to its record, a new call for a placing that is accepted, and each command. A placing that is refused is none, and in a port in use every one is.
-abbrev pub event_by : Outcome → List Event
-event_by (Routed c) = new-call ∷ []
-event_by (Refused x) = []
+abbrev pub event_by : Result Callee Refusal → List Event
+event_by (Ok c) = new-call ∷ []
+event_by (Err x) = []
 
 abbrev pub event_of : Call → PortOperation → List Event
 event_of c (placing_there p s n m) = event_by (outcome_in (c ∷ []) p s n m)
@@ -152,7 +154,7 @@ CallInPort c xs ks = events_of c xs ≡ new-call ∷ map doing ks
 -- There is such a call of any commands: a free port takes what routing routes.
 abbrev pub CallsInPort : Type 0
 CallsInPort =
-    (c : Call) (p : Plan) (s : Setup) (n m : ℕ) (x : Callee) (ks : List Command) → T (is_free c) → outcome p s Nothing n m ≡ Routed x
+    (c : Call) (p : Plan) (s : Setup) (n m : ℕ) (x : Callee) (ks : List Command) → T (is_free c) → outcome p s (Ok tt) n m ≡ Ok x
     → CallInPort c (placing_there p s n m ∷ map commanding_it ks) ks
 
 -- The port is what these commands alone lead to.
@@ -184,13 +186,15 @@ PortNoneTwice = (c : Call) (xs : List PortOperation) (ks : List Command) → Cal
 
 -- PLACING takes the lowest free record, answers with it and its use number, one more than before (65,535 followed by 0), and with exactly what routing alone gives; every other record is as it was.
 pub record PlacesLowest (row : List Call) (p : Plan) (s : Setup) (n m : ℕ) : Type 0 where
-  pub lowest : PlacedLowest row (placed_in row p s n m).record_number (placed_in row p s n m).use_number (row_after row p s n m)
-  pub stepped : (placed_in row p s n m).use_number ≡ next_use (record_at row (placed_in row p s n m).record_number).use_number
-  pub as_routing : (placed_in row p s n m).routed ≡ answer p s Nothing n m
-  pub as_routed : outcome_in row p s n m ≡ outcome p s Nothing n m
+  pub given : Placed
+  pub given_is : placed_in row p s n m ≡ Ok given
+  pub lowest : PlacedLowest row given.record_number given.use_number (row_after row p s n m)
+  pub stepped : given.use_number ≡ next_use (record_at row given.record_number).use_number
+  pub as_routing : Ok given.routed ≡ answer p s (Ok tt) n m
+  pub as_routed : outcome_in row p s n m ≡ outcome p s (Ok tt) n m
 
 abbrev pub Placing : Type 0
-Placing = (row : List Call) (p : Plan) (s : Setup) (n m : ℕ) (c : Callee) → outcome_in row p s n m ≡ Routed c → PlacesLowest row p s n m
+Placing = (row : List Call) (p : Plan) (s : Setup) (n m : ℕ) (c : Callee) → outcome_in row p s n m ≡ Ok c → PlacesLowest row p s n m
 
 -- AN OLD NAME (C7): after one placing and fewer than 65,536 in its record, a command by the use number of then is refused 10; after 65,536 it fits again: the number is the record's, and where the record is in use the command is answered by the record's own step.
 pub record OldName (row : List Call) (acts : List Act) (r : ℕ) : Type 0 where

@@ -1,4 +1,5 @@
 -- What a sound plan has, in the form in which callers want it. Assumes nothing.
+use Rattle.std.specs.Prelude.{Some}
 use mathlib.Core.Path.{◌≡◌, refl, sym, ap, ◌∙◌}
 use mathlib.Core.Logic.{◌⊎◌, inl, inr, ⊎_elim}
 use mathlib.Core.Bool.{Bool, true, false, not, ◌&&◌, ◌||◌}
@@ -14,7 +15,6 @@ use Rattle.typeset.proofs.Laws.{has-empty, within-below}
 use Rattle.plan.specs.declared.Region.{Region}
 use Rattle.plan.specs.declared.Region.TheVariants.{Source, Target}
 use Rattle.plan.specs.declared.Plan.{Plan}
-use Rattle.plan.specs.declared.Found.TheVariants.{At}
 use Rattle.order.specs.Rules.{precedes, rows_in_choice, empty_outside, irreflexive, transitive, two_of, reversible_ordered, reversible_opposed, order_sound}
 use Rattle.plan.specs.Parts.{choice, order, subscribed, given, at}
 use Rattle.plan.specs.Rules.{address_given, sets_in_choices, reversible_twice, rest_blank}
@@ -205,7 +205,7 @@ module _ (p : Plan) (𝓢 : sound p ≡ true) where
   used_all = omega (arith, few)
 
   -- a subscriber's address is found at its place
-  pub found-own : (i : ℕ) → i < p.count → lookup p (at p.subscribers i).address ≡ At i
+  pub found-own : (i : ℕ) → i < p.count → lookup p (at p.subscribers i).address ≡ Some i
   found-own i h =
       lookup-at p (at p.subscribers i).address (address-given i h) i (rw used_all h)
       (λ k l. ne_eqb (at p.subscribers k).address (at p.subscribers i).address (λ e. omega (arith, addresses-ascend k i l h)))

@@ -6,6 +6,11 @@ use Rattle.plan.specs.declared.Types.{Types}
 use Rattle.plan.specs.declared.Subscriber.{Subscriber}
 use Rattle.plan.specs.declared.Plan.{Plan}
 
+-- of what the source region has and what the target region has, what this region has
+abbrev pub of_region : {A : Type 0} → Region → A → A → A
+of_region Source source target = source
+of_region Target source target = target
+
 -- what is the plan's, or a subscriber's, in each region: the types that can be routed to, their order, and those subscribed to
 abbrev pub choice : Region → Types → ℕ
 choice Source t = t.source_choice

@@ -1,19 +1,15 @@
 -- A sound plan: one that keeps every rule. The rules are grouped by the last field of the plan file that they speak of. Assumes nothing.
-use Rattle.std.specs.Prelude.{ℕ, Bool, true, false, ◌&&◌, List, [], ◌∷◌, leb}
+use Rattle.std.specs.Prelude.{ℕ, Bool, true, false, ◌&&◌, List, [], ◌∷◌, leb, Result, Ok, Err, ⊤}
 use Rattle.refusal.specs.declared.Refusal.TheVariants.{RuleBroken}
-use Rattle.refusal.specs.declared.Place.{Place}
-use Rattle.refusal.specs.declared.Place.TheVariants.{Nowhere}
-use Rattle.refusal.specs.Numbers.{number_of, place_of}
 use Rattle.order.specs.Rules.{rows_in_choice, empty_outside, irreflexive, transitive, reversible_ordered, reversible_opposed, order_sound}
 use Rattle.typeset.specs.Sets.{every}
 use Rattle.plan.specs.declared.Region.TheVariants.{Source, Target}
 use Rattle.plan.specs.declared.Types.{Types}
 use Rattle.plan.specs.declared.Subscriber.{Subscriber}
 use Rattle.plan.specs.declared.Plan.{Plan}
-use Rattle.plan.specs.declared.Verdict.{Verdict}
-use Rattle.plan.specs.declared.Verdict.TheVariants.{Sound, Refused}
 use Rattle.plan.specs.Parts.{choice, order, at}
 use Rattle.plan.specs.Rules.{types_exist, reversible_in_both, bound_in_both, kind_known, address_given, count_fits, numbers_given, sets_in_choices, reversible_twice, numbers_differ, boxes_blank, lines_apart, one_kind, ascends, rest_blank}
+use Rattle.refusal.specs.declared.Refusal.{Refusal}
 
 -- tag 2, the five sets: L1, L6, L7
 unfoldable pub types_sound : Types → Bool
@@ -96,18 +92,9 @@ all_of [] = true
 all_of (b ∷ bs) = b && all_of bs
 
 -- what a test of the plan answers: sound, or 23 at place 0
-abbrev pub verdict_of : Bool → Verdict
-verdict_of true = Sound
-verdict_of false = Refused (RuleBroken 0)
+abbrev pub verdict_of : Bool → Result ⊤ Refusal
+verdict_of true = Ok tt
+verdict_of false = Err (RuleBroken 0)
 
-unfoldable pub verdict : Plan → Verdict
+unfoldable pub verdict : Plan → Result ⊤ Refusal
 verdict p = verdict_of (sound p)
-
--- what a verdict is in document 01's numbers: 0 for sound, else the number of the refusal; and the refusal's place
-abbrev pub number_said : Verdict → ℕ
-number_said Sound = 0
-number_said (Refused r) = number_of r
-
-abbrev pub place_said : Verdict → Place
-place_said Sound = Nowhere
-place_said (Refused r) = place_of r

@@ -1,78 +1,78 @@
 // A plan from the words of a line: a name says where the numbers after it go.
-use console::Words;
-use plan::{Plan, Subscriber, Types};
+use console::Word;
+use plan::{Plan, Region, Subscriber, Types};
 
-// Where the numbers go is the place of the name in this list.
-pub fn names() -> Words {
-    console::words_of(
-        b"types bound reversible choice order before source target line trunk resource mobile box boxes boxcount to count room byte is first read write check each teaching empty cut of",
-    )
+// More than the longest file has, which is 6,436 bytes.
+pub const ROOM: usize = 6500;
+
+// Where a number goes.
+#[derive(Clone, Copy, PartialEq, Eq, Debug)]
+pub enum Slot {
+    Types,
+    Bound,
+    Reversible,
+    Choice,
+    // The type whose row of the order the next ones are put in.
+    Row,
+    Before,
+    // A subscriber of this kind, at this address.
+    Subscriber(u8),
+    // What is said of a subscriber after its address.
+    Zone,
+    Box,
+    BoxCount,
+    // The same subscriber again, up to this address.
+    UpTo,
+    Count,
+    Room,
+    // In the file: the place of the next byte, a byte, and how many bytes stay.
+    At,
+    Byte,
+    First,
+    // After this name no number stands.
+    Nowhere,
 }
 
-const TYPES: usize = 0;
+pub fn slot_of(name: &str) -> Option<Slot> {
+    Some(match name.as_bytes() {
+        b"types" => Slot::Types,
+        b"bound" => Slot::Bound,
+        b"reversible" => Slot::Reversible,
+        b"choice" => Slot::Choice,
+        b"order" => Slot::Row,
+        b"before" => Slot::Before,
+        b"line" => Slot::Subscriber(1),
+        b"trunk" => Slot::Subscriber(2),
+        b"resource" => Slot::Subscriber(3),
+        b"mobile" => Slot::Subscriber(4),
+        b"source" | b"target" => Slot::Zone,
+        b"box" | b"boxes" => Slot::Box,
+        b"boxcount" => Slot::BoxCount,
+        b"to" => Slot::UpTo,
+        b"count" => Slot::Count,
+        b"room" => Slot::Room,
+        b"byte" => Slot::At,
+        b"first" => Slot::First,
+        b"is" => Slot::Byte,
+        b"read" | b"write" | b"check" | b"each" | b"teaching" | b"empty" | b"cut" | b"of" => {
+            Slot::Nowhere
+        }
+        _ => return None,
+    })
+}
 
-const BOUND: usize = 1;
-
-const REVERSIBLE: usize = 2;
-
-const CHOICE: usize = 3;
-
-const ORDER: usize = 4;
-
-const BEFORE: usize = 5;
-
-const SOURCE: usize = 6;
-
-const TARGET: usize = 7;
-
-const LINE: usize = 8;
-
-const MOBILE: usize = 11;
-
-const BOX: usize = 12;
-
-const BOXES: usize = 13;
-
-const BOXCOUNT: usize = 14;
-
-const TO: usize = 15;
-
-const COUNT: usize = 16;
-
-const ROOM: usize = 17;
-
-pub const BYTE: usize = 18;
-
-pub const IS: usize = 19;
-
-pub const FIRST: usize = 20;
-
-pub const READ: usize = 21;
-
-pub const WRITE: usize = 22;
-
-pub const CHECK: usize = 23;
-
-pub const EACH: usize = 24;
-
-const TEACHING: usize = 25;
-
-// As many names as there are: the place of a word that is none of them.
-pub const UNKNOWN: usize = 29;
-
-// The plan so far; where the next number goes, for which region and which type's row; the room to write into; and whether every word was one that has a meaning here.
+// The plan so far, and the room to write into; where the next number goes, for which region and which type's row.
 #[derive(Clone, Copy)]
 pub struct Draft {
     pub plan: Plan,
     pub room: usize,
-    pub clear: bool,
-    into: usize,
-    region: usize,
+    slot: Slot,
+    region: Region,
     row: usize,
 }
 
+// (Also in index_trials: programs share no plans.)
 fn empty_plan() -> Plan {
-    let nobody = plan::no_subscriber();
     Plan {
         types: Types {
             existing: 0,
@@ -81,239 +81,153 @@ fn empty_plan() -> Plan {
             source_choice: 0,
             target_choice: 0,
         },
-        source_order: [0u32; 32],
-        target_order: [0u32; 32],
-        subscribers: [nobody; 256],
+        source_order: [0; 32],
+        target_order: [0; 32],
+        subscribers: [plan::no_subscriber(); 256],
         count: 0,
     }
 }
 
-// ---- types and orders
-
 // The set of one type.
-fn only(n: u64) -> u32 {
-    1u32 << (n % 32) as u32
+fn only(n: u64) -> Option<u32> {
+    1u32.checked_shl(u32::try_from(n).ok()?)
 }
 
-fn with_type(types: Types, into: usize, region: usize, n: u64) -> Types {
-    let bit = only(n);
-    let mut r = types;
-    match into {
-        TYPES => r.existing = types.existing | bit,
-        BOUND => r.bound = types.bound | bit,
-        REVERSIBLE => r.reversible = types.reversible | bit,
-        _ => {
-            if region == TARGET {
-                r.target_choice = types.target_choice | bit;
-            } else {
-                r.source_choice = types.source_choice | bit;
+fn join_at(rows: &mut [u32; 32], row: usize, set: u32) {
+    if let Some(types) = rows.get_mut(row) {
+        *types |= set;
+    }
+}
+
+fn place(n: u64) -> Option<usize> {
+    (n < ROOM as u64).then_some(n as usize)
+}
+
+impl Draft {
+    // The place of the last subscriber; no place of the plan's where it has none, or counts more than it has places.
+    fn last_place(&self) -> usize {
+        usize::from(self.plan.count).wrapping_sub(1)
+    }
+
+    // The last subscriber; nobody where there is none.
+    fn last(&self) -> Subscriber {
+        let last = self.plan.subscribers.get(self.last_place());
+        last.copied().unwrap_or(plan::no_subscriber())
+    }
+
+    fn put_last(&mut self, s: Subscriber) {
+        let last = self.last_place();
+        if let Some(place) = self.plan.subscribers.get_mut(last) {
+            *place = s;
+        }
+    }
+
+    // The 257th only counts.
+    fn add_subscriber(&mut self, s: Subscriber) {
+        self.plan.count = self.plan.count.wrapping_add(1);
+        self.put_last(s);
+    }
+
+    // The same again at each next address, at most 256 times.
+    fn add_up_to(&mut self, end: u32) {
+        for _ in 0..256 {
+            let mut s = self.last();
+            if s.address < end {
+                s.address += 1;
+                self.add_subscriber(s);
             }
         }
     }
-    r
-}
 
-fn with_set(plan: Plan, into: usize, region: usize, n: u64) -> Plan {
-    let types = with_type(plan.types, into, region, n);
-    let mut r = plan;
-    r.types = types;
-    r
-}
-
-fn with_bit(rows: [u32; 32], row: usize, bit: u32) -> [u32; 32] {
-    let mut r = rows;
-    if row < 32 {
-        r[row] = rows[row] | bit;
-    }
-    r
-}
-
-fn with_order(plan: Plan, region: usize, row: usize, n: u64) -> Plan {
-    let bit = only(n);
-    let source = plan.source_order;
-    let target = plan.target_order;
-    let mut r = plan;
-    if region == TARGET {
-        let rows = with_bit(target, row, bit);
-        r.target_order = rows;
-    } else {
-        let rows = with_bit(source, row, bit);
-        r.source_order = rows;
-    }
-    r
-}
-
-// ---- subscribers
-
-// The last one; nobody where the plan has none, or counts more than it has places.
-fn last(plan: Plan) -> Subscriber {
-    let all = plan.subscribers;
-    let at = (plan.count as usize).wrapping_sub(1);
-    if at < 256 {
-        all[at]
-    } else {
-        plan::no_subscriber()
-    }
-}
-
-fn with_last(plan: Plan, s: Subscriber) -> Plan {
-    let mut all = plan.subscribers;
-    let mut r = plan;
-    let at = (plan.count as usize).wrapping_sub(1);
-    if at < 256 {
-        all[at] = s;
-        r.subscribers = all;
-    }
-    r
-}
-
-// The 257th only counts.
-fn with_subscriber(plan: Plan, s: Subscriber) -> Plan {
-    let mut r = plan;
-    r.count = plan.count.wrapping_add(1);
-    with_last(r, s)
-}
-
-fn address(n: u64) -> u32 {
-    (n % 4_294_967_296) as u32
-}
-
-// The kinds 1 to 4 are named one after the other.
-fn new_subscriber(into: usize, n: u64) -> Subscriber {
-    let mut s = plan::no_subscriber();
-    s.kind = (into % 8 + 1) as u8;
-    s.address = address(n);
-    s
-}
-
-// The fifth number only counts.
-fn with_box(s: Subscriber, number: u16) -> Subscriber {
-    let mut r = s;
-    let mut boxes = s.boxes;
-    let n = s.count as usize;
-    if n < 4 {
-        boxes[n] = number;
-        r.boxes = boxes;
-    }
-    r.count = s.count.wrapping_add(1);
-    r
-}
-
-// What is said of a subscriber after its address.
-fn detailed(s: Subscriber, into: usize, n: u64) -> Subscriber {
-    let mut r = s;
-    match into {
-        SOURCE => r.source = s.source | only(n),
-        TARGET => r.target = s.target | only(n),
-        BOX | BOXES => r = with_box(s, (n % 65_536) as u16),
-        BOXCOUNT => r.count = (n % 256) as u8,
-        _ => {}
-    }
-    r
-}
-
-// One more like the last, at the next address, while that is not past the end.
-fn one_more(plan: Plan, end: u32) -> Plan {
-    let mut s = last(plan);
-    if s.address < end {
-        s.address = s.address + 1;
-        with_subscriber(plan, s)
-    } else {
-        plan
-    }
-}
-
-fn up_to(plan: Plan, n: u64) -> Plan {
-    let end = address(n);
-    let mut r = plan;
-    for _ in 0u32..256u32 {
-        r = one_more(r, end);
-    }
-    r
-}
-
-// ---- numbers
-
-// One more than the largest number that can stand there.
-fn limit(into: usize) -> u64 {
-    match into {
-        TYPES..=TARGET => 32,
-        LINE..=MOBILE | TO => 4_294_967_296,
-        BOX | BOXES | COUNT => 65_536,
-        BOXCOUNT | IS => 256,
-        ROOM | BYTE | FIRST => 6_500,
-        _ => 0,
-    }
-}
-
-fn with_count(plan: Plan, n: u64) -> Plan {
-    let mut r = plan;
-    r.count = (n % 65_536) as u16;
-    r
-}
-
-fn with_number(d: Draft, n: u64) -> Plan {
-    let plan = d.plan;
-    let into = d.into;
-    match into {
-        TYPES..=CHOICE => with_set(plan, into, d.region, n),
-        BEFORE => with_order(plan, d.region, d.row, n),
-        LINE..=MOBILE => with_subscriber(plan, new_subscriber(into, n)),
-        TO => up_to(plan, n),
-        COUNT => with_count(plan, n),
-        _ => with_last(plan, detailed(last(plan), into, n)),
-    }
-}
-
-fn numbered(d: Draft, n: u64) -> Draft {
-    let mut r = d;
-    let into = d.into;
-    let plan = with_number(d, n);
-    r.plan = plan;
-    r.clear = d.clear & (n < limit(into));
-    match into {
-        ORDER => r.row = n as usize,
-        ROOM => r.room = n as usize,
-        _ => {}
-    }
-    r
-}
-
-fn named(d: Draft, into: usize) -> Draft {
-    let mut r = d;
-    r.into = into;
-    r.clear = d.clear & (into < UNKNOWN);
-    match into {
-        SOURCE | TARGET => r.region = into,
-        TEACHING => {
-            let plan = teaching::teaching_plan();
-            r.plan = plan;
+    // What is said of the last subscriber.
+    fn detail(&mut self, n: u64) -> Option<()> {
+        let mut s = self.last();
+        match (self.slot, self.region) {
+            (Slot::Zone, Region::Source) => s.source |= only(n)?,
+            (Slot::Zone, Region::Target) => s.target |= only(n)?,
+            (Slot::Box, _) => {
+                // The fifth number only counts.
+                let number = u16::try_from(n).ok()?;
+                let at = usize::from(s.count);
+                if let Some(place) = s.boxes.get_mut(at) {
+                    *place = number;
+                }
+                s.count = s.count.wrapping_add(1);
+            }
+            _ => s.count = u8::try_from(n).ok()?,
         }
-        _ => {}
+        self.put_last(s);
+        Some(())
     }
-    r
+
+    fn number(&mut self, n: u64) -> Option<()> {
+        match self.slot {
+            Slot::Types => self.plan.types.existing |= only(n)?,
+            Slot::Bound => self.plan.types.bound |= only(n)?,
+            Slot::Reversible => self.plan.types.reversible |= only(n)?,
+            Slot::Choice => match self.region {
+                Region::Source => self.plan.types.source_choice |= only(n)?,
+                Region::Target => self.plan.types.target_choice |= only(n)?,
+            },
+            Slot::Row => {
+                only(n)?;
+                self.row = n as usize;
+            }
+            Slot::Before => {
+                let after = only(n)?;
+                match self.region {
+                    Region::Source => join_at(&mut self.plan.source_order, self.row, after),
+                    Region::Target => join_at(&mut self.plan.target_order, self.row, after),
+                }
+            }
+            Slot::Subscriber(kind) => {
+                let mut s = plan::no_subscriber();
+                s.kind = kind;
+                s.address = u32::try_from(n).ok()?;
+                self.add_subscriber(s);
+            }
+            Slot::Zone | Slot::Box | Slot::BoxCount => self.detail(n)?,
+            Slot::UpTo => self.add_up_to(u32::try_from(n).ok()?),
+            Slot::Count => self.plan.count = u16::try_from(n).ok()?,
+            Slot::Room => self.room = place(n)?,
+            Slot::At | Slot::First => {
+                place(n)?;
+            }
+            Slot::Byte => {
+                u8::try_from(n).ok()?;
+            }
+            Slot::Nowhere => return None,
+        }
+        Some(())
+    }
+
+    fn name(&mut self, name: &str) -> Option<()> {
+        self.slot = slot_of(name)?;
+        match name.as_bytes() {
+            b"source" => self.region = Region::Source,
+            b"target" => self.region = Region::Target,
+            b"teaching" => self.plan = teaching::teaching_plan(),
+            _ => {}
+        }
+        Some(())
+    }
 }
 
-pub fn draft_of(w: Words) -> Draft {
-    let names = names();
-    let end = console::place_of(w, console::EQUALS);
-    let mut d = Draft {
+// Nothing where a word has no meaning here, or a number is too large for its place.
+pub fn draft_of(words: &[Word]) -> Option<Draft> {
+    let mut draft = Draft {
         plan: empty_plan(),
         room: 0,
-        clear: true,
-        into: UNKNOWN,
-        region: SOURCE,
+        slot: Slot::Nowhere,
+        region: Region::Source,
         row: 0,
     };
-    for i in 0usize..200usize {
-        let value = console::word(w, i);
-        if i < end {
-            d = if console::is_number(value) {
-                numbered(d, value)
-            } else {
-                named(d, console::place_of(names, value))
-            };
+    for word in words {
+        match word {
+            Word::Number(n) => draft.number(*n)?,
+            Word::Name(name) => draft.name(name)?,
+            _ => return None,
         }
     }
-    d
+    Some(draft)
 }

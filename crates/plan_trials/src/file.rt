@@ -1,249 +1,114 @@
 // The file of any plan, sound or not, made here and not by the writer, so that the two can be compared; and its bytes changed as a line says.
-use crate::draft::{BYTE, FIRST, IS};
-use console::Words;
-use plan::{Plan, Subscriber, Types};
+use crate::draft::{ROOM, Slot, slot_of};
+use console::Word;
+use plan::{Plan, Subscriber};
+use std::alloc::{AllocError, Global};
 
-// The longest file has 6,436 bytes.
-#[derive(Clone, Copy)]
+// What stands past a file, as in a room that nothing was written to.
+pub const UNWRITTEN: u8 = 170;
+
+// A file at the start of a room; what stands past it is compared as well.
+#[derive(Drop)]
 pub struct File {
-    pub bytes: [u8; 6500],
+    pub room: Vec<u8>,
     pub len: usize,
 }
 
-// The bytes past a file, as those of a room that nothing was written to.
-pub fn unwritten() -> [u8; 6500] {
-    [170u8; 6500]
-}
-
-// The byte at a place; 0 past the last.
-pub fn byte(f: File, at: usize) -> u8 {
-    let bytes = f.bytes;
-    if at < 6500 { bytes[at] } else { 0 }
-}
-
-// A byte past the end makes the file longer.
-fn put_at(f: File, at: usize, b: u8) -> File {
-    let mut bytes = f.bytes;
-    let mut r = f;
-    if at < 6500 {
-        bytes[at] = b;
-        r.bytes = bytes;
-        r.len = if f.len <= at { at + 1 } else { f.len };
+fn put_fours(bytes: &mut Vec<u8>, numbers: &[u32]) -> Result<(), AllocError> {
+    for n in numbers {
+        bytes.extend_from_slice(&n.to_be_bytes())?;
     }
-    r
+    Ok(())
 }
 
-// ---- fields
-
-// A field's tag and what it holds: `ones` numbers of one byte, at most one; then `fours` numbers of four bytes and `twos` of two.
-#[derive(Clone, Copy)]
-struct Field {
-    tag: u8,
-    one: u8,
-    four: [u32; 32],
-    two: [u32; 32],
-    ones: u8,
-    fours: u8,
-    twos: u8,
+// A tag, and how many bytes follow.
+fn put_tag(bytes: &mut Vec<u8>, tag: u8, size: u16) -> Result<(), AllocError> {
+    bytes.push(tag)?;
+    bytes.extend_from_slice(&size.to_be_bytes())
 }
 
-fn empty_field(tag: u8) -> Field {
-    Field {
-        tag,
-        one: 0,
-        four: [0u32; 32],
-        two: [0u32; 32],
-        ones: 0,
-        fours: 0,
-        twos: 0,
+// Of more box numbers than there are, the further ones are 0, up to the 32nd; past it they are left out.
+fn put_subscriber(bytes: &mut Vec<u8>, s: &Subscriber) -> Result<(), AllocError> {
+    put_tag(bytes, 5, 13 + 2 * u16::from(s.count))?;
+    bytes.push(s.kind)?;
+    put_fours(bytes, &[s.address, s.source, s.target])?;
+    for i in 0..usize::from(s.count.min(32)) {
+        let number = s.boxes.get(i).copied().unwrap_or(0);
+        bytes.extend_from_slice(&number.to_be_bytes())?;
     }
+    Ok(())
 }
 
-fn version_field() -> Field {
-    let mut r = empty_field(1);
-    r.one = 1;
-    r.ones = 1;
-    r
+fn bytes_of(alloc: Global, plan: &Plan) -> Result<Vec<u8>, AllocError> {
+    let types = plan.types;
+    let mut bytes = Vec::new(alloc);
+    put_tag(&mut bytes, 1, 1)?;
+    bytes.push(1)?;
+    put_tag(&mut bytes, 2, 20)?;
+    put_fours(
+        &mut bytes,
+        &[
+            types.existing,
+            types.bound,
+            types.reversible,
+            types.source_choice,
+            types.target_choice,
+        ],
+    )?;
+    put_tag(&mut bytes, 3, 128)?;
+    put_fours(&mut bytes, &plan.source_order)?;
+    put_tag(&mut bytes, 4, 128)?;
+    put_fours(&mut bytes, &plan.target_order)?;
+    for s in plan.subscribers.iter().take(usize::from(plan.count)) {
+        put_subscriber(&mut bytes, s)?;
+    }
+    put_tag(&mut bytes, 127, 0)?;
+    Ok(bytes)
 }
 
-fn types_field(t: Types) -> Field {
-    let mut r = empty_field(2);
-    let mut four = [0u32; 32];
-    four[0] = t.existing;
-    four[1] = t.bound;
-    four[2] = t.reversible;
-    four[3] = t.source_choice;
-    four[4] = t.target_choice;
-    r.four = four;
-    r.fours = 5;
-    r
-}
+impl File {
+    // What finds no room is left out.
+    pub fn of(alloc: Global, plan: &Plan) -> Result<File, AllocError> {
+        let mut room = bytes_of(alloc, plan)?;
+        room.truncate(ROOM);
+        let len = room.len();
+        room.resize(ROOM, UNWRITTEN)?;
+        Ok(File { room, len })
+    }
 
-fn rows_field(tag: u8, rows: [u32; 32]) -> Field {
-    let mut r = empty_field(tag);
-    r.four = rows;
-    r.fours = 32;
-    r
-}
+    // The first bytes of the file; all of them where there are no more.
+    pub fn first(&self, n: usize) -> &[u8] {
+        self.room.get(..n.min(self.len)).unwrap_or(&self.room)
+    }
 
-fn subscriber_field(s: Subscriber) -> Field {
-    let mut r = empty_field(5);
-    let mut four = [0u32; 32];
-    let mut two = [0u32; 32];
-    let boxes = s.boxes;
-    four[0] = s.address;
-    four[1] = s.source;
-    four[2] = s.target;
-    two[0] = boxes[0] as u32;
-    two[1] = boxes[1] as u32;
-    two[2] = boxes[2] as u32;
-    two[3] = boxes[3] as u32;
-    r.one = s.kind;
-    r.ones = 1;
-    r.four = four;
-    r.fours = 3;
-    r.two = two;
-    r.twos = s.count;
-    r
-}
+    // The byte at a place; 0 past the last of the room.
+    pub fn byte(&self, at: usize) -> u8 {
+        self.room.get(at).copied().unwrap_or(0)
+    }
 
-// The tag and the length, as one number of three bytes.
-fn header(f: Field) -> u32 {
-    let size = f.ones as u32 + 4 * f.fours as u32 + 2 * f.twos as u32;
-    f.tag as u32 * 65_536 + size
-}
+    // A byte past the end makes the file longer.
+    fn put(&mut self, at: usize, byte: u8) {
+        if let Some(place) = self.room.get_mut(at) {
+            *place = byte;
+            self.len = self.len.max(at.saturating_add(1));
+        }
+    }
 
-// ---- bytes. Each function answers the place after what it put; what finds no room is left out.
-
-// The last `size` bytes of a number, the high one first.
-fn put_number(bytes: &mut [u8; 6500], at: usize, n: u32, size: usize) -> usize {
-    let four = [
-        (n / 16_777_216 % 256) as u8,
-        (n / 65_536 % 256) as u8,
-        (n / 256 % 256) as u8,
-        (n % 256) as u8,
-    ];
-    let mut to = at;
-    for i in 0usize..4usize {
-        if 4 - i <= size {
-            if to < 6500 {
-                bytes[to] = four[i];
-                to += 1;
+    // `byte P is B B ..` and `first N`, in the order of the line.
+    pub fn edit(&mut self, words: &[Word]) {
+        let mut slot = Slot::Nowhere;
+        let mut at = 0usize;
+        for word in words {
+            match (slot, word) {
+                (_, Word::Name(name)) => slot = slot_of(name).unwrap_or(Slot::Nowhere),
+                (Slot::At, Word::Number(n)) => at = *n as usize,
+                (Slot::Byte, Word::Number(n)) => {
+                    self.put(at, (n % 256) as u8);
+                    at = at.wrapping_add(1);
+                }
+                (Slot::First, Word::Number(n)) => self.len = self.len.min(*n as usize),
+                _ => {}
             }
         }
     }
-    to
-}
-
-fn put_numbers(
-    bytes: &mut [u8; 6500],
-    at: usize,
-    numbers: [u32; 32],
-    count: u8,
-    size: usize,
-) -> usize {
-    let end = count as usize;
-    let mut to = at;
-    for i in 0usize..32usize {
-        if i < end {
-            to = put_number(bytes, to, numbers[i], size);
-        }
-    }
-    to
-}
-
-fn put_field(bytes: &mut [u8; 6500], at: usize, f: Field) -> usize {
-    let four = f.four;
-    let two = f.two;
-    let tagged = put_number(bytes, at, header(f), 3);
-    let begun = put_number(bytes, tagged, f.one as u32, f.ones as usize);
-    let most = put_numbers(bytes, begun, four, f.fours, 4);
-    put_numbers(bytes, most, two, f.twos, 2)
-}
-
-fn put_subscribers(bytes: &mut [u8; 6500], at: usize, plan: Plan) -> usize {
-    let all = plan.subscribers;
-    let count = plan.count as usize;
-    let mut to = at;
-    for i in 0usize..256usize {
-        if i < count {
-            let s = all[i];
-            to = put_field(bytes, to, subscriber_field(s));
-        }
-    }
-    to
-}
-
-pub fn file_of(plan: Plan) -> File {
-    let source = plan.source_order;
-    let target = plan.target_order;
-    let mut bytes = unwritten();
-    let versioned = put_field(&mut bytes, 0, version_field());
-    let typed = put_field(&mut bytes, versioned, types_field(plan.types));
-    let sourced = put_field(&mut bytes, typed, rows_field(3, source));
-    let ordered = put_field(&mut bytes, sourced, rows_field(4, target));
-    let listed = put_subscribers(&mut bytes, ordered, plan);
-    let len = put_field(&mut bytes, listed, empty_field(127));
-    File { bytes, len }
-}
-
-// ---- changes
-
-// Where the next number goes, and the place of the next byte.
-#[derive(Clone, Copy)]
-struct Change {
-    file: File,
-    into: usize,
-    at: usize,
-}
-
-fn first(f: File, n: usize) -> File {
-    let mut r = f;
-    if n < f.len {
-        r.len = n;
-    }
-    r
-}
-
-fn changed(c: Change, n: u64) -> Change {
-    let file = c.file;
-    let at = c.at;
-    let into = c.into;
-    let mut r = c;
-    match into {
-        BYTE => r.at = n as usize,
-        IS => {
-            let more = put_at(file, at, (n % 256) as u8);
-            r.file = more;
-            r.at = at.wrapping_add(1);
-        }
-        FIRST => {
-            let less = first(file, n as usize);
-            r.file = less;
-        }
-        _ => {}
-    }
-    r
-}
-
-// `byte P is B B ..` and `first N`, in the order of the line.
-pub fn edited(f: File, w: Words) -> File {
-    let names = crate::draft::names();
-    let end = console::place_of(w, console::EQUALS);
-    let mut c = Change {
-        file: f,
-        into: 0,
-        at: 0,
-    };
-    for i in 0usize..200usize {
-        let value = console::word(w, i);
-        if i < end {
-            if console::is_number(value) {
-                c = changed(c, value);
-            } else {
-                c.into = console::place_of(names, value);
-            }
-        }
-    }
-    c.file
 }

@@ -5,99 +5,61 @@
 mod draft;
 mod file;
 
-use console::{Tally, Words, judged, no_words, phrase, with, word};
-use draft::{CHECK, EACH, READ, UNKNOWN, WRITE};
-use file::File;
-use plan::{Plan, Verdict};
-use planwrite::Written;
+use console::{Tally, Word, before};
+use draft::Draft;
+use file::{File, UNWRITTEN};
+use plan::Plan;
+use std::alloc::{AllocError, Global};
+use std::fmt::Write;
 use std::io;
-
-// ---- parts and comparing
-
-// The first n bytes; all of them where there are no more.
-fn prefix(bytes: &[u8], n: usize) -> &[u8] {
-    if n <= bytes.len() { &bytes[..n] } else { bytes }
-}
-
-// The first place at which two texts are not the same; their length, if they are.
-fn differ_at(a: &[u8], b: &[u8]) -> usize {
-    for i in 0usize..a.len() {
-        if b.len() <= i {
-            return i;
-        }
-        if a[i] != b[i] {
-            return i;
-        }
-    }
-    a.len()
-}
-
-// `right` if two texts are the same; else `other`, and the place at which they begin to differ.
-fn if_same(right: Words, other: Words, a: &[u8], b: &[u8]) -> Words {
-    let at = differ_at(a, b);
-    if at == a.len() && at == b.len() {
-        right
-    } else {
-        with(phrase(other, b"wrong at"), at as u64)
-    }
-}
 
 // ---- what is answered, in words
 
-fn verdict_said(v: Verdict) -> Words {
-    match v {
-        Verdict::Sound => phrase(no_words(), b"sound"),
-        Verdict::Refused(r) => console::refused(no_words(), r),
+// `right` if two texts are the same; else the place at which they begin to differ.
+fn push_if_same(told: &mut String, right: &str, a: &[u8], b: &[u8]) -> Result<(), AllocError> {
+    if a == b {
+        return told.push_str(right);
+    }
+    let differ = a.iter().zip(b.iter()).position(|(x, y)| x != y);
+    let at = differ.unwrap_or(a.len().min(b.len()));
+    write!(told, " wrong at {at}")
+}
+
+fn check_told(alloc: Global, plan: Plan) -> Result<String, AllocError> {
+    match soundness::check(plan) {
+        Ok(()) => format!(in alloc; "sound"),
+        Err(r) => format!(in alloc; "{r}"),
     }
 }
 
-// The plan that was read must be sound in memory too, and have these bytes as its file.
-fn plan_said(plan: Plan, bytes: &[u8]) -> Words {
-    let said = verdict_said(soundness::check(plan));
-    let made = file::file_of(plan);
-    let again = made.bytes;
-    if_same(said, said, prefix(&again, made.len), bytes)
-}
-
-fn read_said(bytes: &[u8]) -> Words {
-    let reading = planread::read(bytes);
-    let answer = reading.answer;
-    match answer {
-        Verdict::Sound => plan_said(reading.plan, bytes),
-        Verdict::Refused(r) => console::refused(no_words(), r),
-    }
-}
-
-// The first n bytes of a file.
-fn reading(f: File, n: usize) -> Words {
-    let bytes = f.bytes;
-    read_said(prefix(&bytes, n))
-}
-
-fn write_into(plan: Plan, room: &mut [u8], n: usize) -> Written {
-    if n <= room.len() {
-        planwrite::write(plan, &mut room[..n])
-    } else {
-        planwrite::write(plan, room)
+// A plan that was read must be sound in memory too, and have these bytes as its file.
+fn read_told(alloc: Global, bytes: &[u8]) -> Result<String, AllocError> {
+    match planread::read(bytes) {
+        Ok(plan) => {
+            let mut told = check_told(alloc, plan)?;
+            let again = File::of(alloc, &plan)?;
+            push_if_same(&mut told, "", again.first(again.len), bytes)?;
+            Ok(told)
+        }
+        Err(r) => format!(in alloc; "{r}"),
     }
 }
 
 // Every byte of the room is looked at, also those past the part that was lent.
-fn if_room_is(right: Words, other: Words, room: [u8; 6500], wanted: [u8; 6500]) -> Words {
-    if_same(right, other, &room, &wanted)
-}
-
-fn writing(plan: Plan, f: File, n: usize) -> Words {
-    let written = f.bytes;
-    let mut room = file::unwritten();
-    match write_into(plan, &mut room, n) {
-        Written::Bytes(len) => {
-            let said = phrase(with(no_words(), len as u64), b"bytes");
-            if_room_is(phrase(said, b"rest as it was"), said, room, written)
+fn write_told(alloc: Global, draft: &Draft, file: &File) -> Result<String, AllocError> {
+    let unwritten = [UNWRITTEN; draft::ROOM];
+    let mut room = unwritten;
+    let lent = draft.room.min(room.len());
+    match planwrite::write(draft.plan, &mut room[..lent]) {
+        Ok(len) => {
+            let mut told = format!(in alloc; "{len} bytes")?;
+            push_if_same(&mut told, " rest as it was", &room, &file.room)?;
+            Ok(told)
         }
-        Written::Refused(r) => {
-            let said = console::refused(no_words(), r);
-            if_room_is(phrase(said, b"as it was"), said, room, file::unwritten())
+        Err(r) => {
+            let mut told = format!(in alloc; "{r}")?;
+            push_if_same(&mut told, " as it was", &room, &unwritten)?;
+            Ok(told)
         }
     }
 }
@@ -105,94 +67,80 @@ fn writing(plan: Plan, f: File, n: usize) -> Words {
 // ---- each cut of a file
 
 // Where the field begins in which the first n bytes end, if those one byte shorter end in the field at `at`: only the length of that field is asked.
-fn field_at(f: File, at: usize, n: usize) -> usize {
-    if 6500 <= at {
-        return at;
-    }
-    let size = file::byte(f, at + 1) as usize * 256 + file::byte(f, at + 2) as usize;
-    if at + 3 + size <= n {
-        at + 3 + size
+fn field_at(file: &File, at: usize, n: usize) -> usize {
+    let size = u16::from_be_bytes([file.byte(at.wrapping_add(1)), file.byte(at.wrapping_add(2))]);
+    let next = at.saturating_add(3 + usize::from(size));
+    if at < draft::ROOM && next <= n {
+        next
     } else {
         at
     }
 }
 
-// The first n bytes of a file, where the field at `at` is the one that is cut short.
-fn cut_said(f: File, at: usize, n: usize) -> Words {
-    let said = reading(f, n);
-    if word(said, 1) == 20 && word(said, 3) == at as u64 {
-        phrase(no_words(), b"refused 20 at its field")
-    } else {
-        with(phrase(said, b"first"), n as u64)
-    }
-}
-
-fn cuts(rt: &impl Print, t: Tally, text: &[u8], asked: Words, f: File) -> io::Result<Tally> {
-    let mut r = t;
-    let mut at: usize = 0;
-    for n in 0usize..6500usize {
-        if n < f.len {
-            at = field_at(f, at, n);
-            r = judged(rt, r, text, asked, cut_said(f, at, n))?;
+// The file is read without its last byte, without its last two, and so on; each is a case.
+fn try_cuts(
+    rt: &(impl Print + AllocGlobal),
+    tally: &mut Tally,
+    text: &[u8],
+    words: &[Word],
+    file: &File,
+) -> io::Result<()> {
+    let mut at = 0;
+    for n in 0..file.len {
+        at = field_at(file, at, n);
+        let mut told = read_told(rt.alloc(), file.first(n))?;
+        if told == format!(in rt.alloc(); "refused 20 at {at}")? {
+            told = format!(in rt.alloc(); "refused 20 at its field")?;
+        } else {
+            write!(told, " first {n}")?;
         }
+        tally.judge(rt, text, words, told.as_str())?;
     }
-    Ok(r)
+    Ok(())
 }
 
 // ---- the cases
 
-// What the first word asks for, if every word is clear.
-fn verb(asked: Words, clear: bool) -> usize {
-    if clear {
-        console::place_of(draft::names(), word(asked, 0))
-    } else {
-        UNKNOWN
-    }
+fn try_words(
+    rt: &(impl Print + AllocGlobal),
+    tally: &mut Tally,
+    text: &[u8],
+    words: &[Word],
+) -> io::Result<()> {
+    let alloc = rt.alloc();
+    let asked = before(words, Word::Equals);
+    let told = match (draft::draft_of(asked), asked.first()) {
+        (Some(draft), Some(Word::Name(verb))) => {
+            let mut file = File::of(alloc, &draft.plan)?;
+            file.edit(asked);
+            match verb.as_bytes() {
+                b"each" => return try_cuts(rt, tally, text, words, &file),
+                // A file that is made has at most 256 subscribers: it can't be had of a plan that counts more.
+                b"read" if draft.plan.count <= 256 => read_told(alloc, file.first(file.len))?,
+                b"write" => write_told(alloc, &draft, &file)?,
+                b"check" => check_told(alloc, draft.plan)?,
+                _ => format!(in alloc; "unclear")?,
+            }
+        }
+        _ => format!(in alloc; "unclear")?,
+    };
+    tally.judge(rt, text, words, told.as_str())
 }
 
-// A file that is made has at most 256 subscribers: it can't be had of a plan that counts more.
-fn answer(verb: usize, plan: Plan, f: File, room: usize) -> Words {
-    if verb == READ && 256 < plan.count {
-        return phrase(no_words(), b"unclear");
-    }
-    match verb {
-        READ => reading(f, f.len),
-        WRITE => writing(plan, f, room),
-        CHECK => verdict_said(soundness::check(plan)),
-        _ => phrase(no_words(), b"unclear"),
-    }
-}
-
-fn tried(rt: &impl Print, t: Tally, text: &[u8], asked: Words) -> io::Result<Tally> {
-    let d = draft::draft_of(asked);
-    let plan = d.plan;
-    let f = file::edited(file::file_of(plan), asked);
-    let verb = verb(asked, d.clear);
-    if verb == EACH {
-        cuts(rt, t, text, asked, f)
-    } else {
-        judged(rt, t, text, asked, answer(verb, plan, f, d.room))
-    }
-}
-
-fn with_line(rt: &impl Print, t: Tally, text: &[u8]) -> io::Result<Tally> {
+fn one_line(rt: &(impl Print + AllocGlobal), tally: &mut Tally, text: &[u8]) -> io::Result<()> {
+    tally.next_line();
     if console::is_remark(text) {
-        Ok(t)
-    } else {
-        tried(rt, t, text, console::words_of(text))
+        return Ok(());
     }
+    let small = console::in_small_letters(rt.alloc(), text)?;
+    let words = console::words_of(rt.alloc(), &small)?;
+    try_words(rt, tally, text, &words)
 }
 
 fn main(rt: HostRuntime) -> io::Result<()> {
-    let mut input = rt.reader();
-    let mut t = console::no_tally();
-    for _ in 0u32..100_000u32 {
-        let mut line = [0u8; 1000];
-        let l = console::read_line(&mut input, &mut line)?;
-        if l.ended {
-            break;
-        }
-        t = with_line(&rt, console::next_line(t), prefix(&line, l.len))?;
-    }
-    console::finish(&rt, t)
+    let mut tally = Tally::new();
+    console::for_each_line(&mut rt.reader(), &mut [0; 1000], |text| {
+        one_line(&rt, &mut tally, text)
+    })?;
+    println!(rt; "{tally}")
 }

@@ -11,24 +11,10 @@ use Rattle.planfile.specs.Typed.{TypedSubscriber, AllTyped}
 
 -- ---- numbers
 
-pub below_none : (n : ℕ) (xs : List ℕ) → Below n (take 0 xs)
+pub below-each : (n : ℕ) (xs : List ℕ) → ((i : ℕ) → get_or xs i 0 < n) → Below n xs
 unfolding Below
-below_none n xs = tt
-
-below_suc : (n : ℕ) (xs : List ℕ) (x : ℕ) → x < length xs → Below n (take x xs) → get_or xs x 0 < n → Below n (take (suc x) xs)
-unfolding Below
-below_suc n [] x h b g = absurd (omega arith)
-below_suc n (y ∷ xs) zero h b g = (g, tt)
-below_suc n (y ∷ xs) (suc x) h b g = (b.0, below_suc n xs x (omega arith) b.1 g)
-
-pub below_more : (n : ℕ) (xs : List ℕ) (x : ℕ) → x < length xs → Below n (take x xs) → get_or xs x 0 < n → Below n (take (x + 1) xs)
-below_more n xs x h b g = rw (add-one x) (below_suc n xs x h b g)
-
-pub below_all : (n : ℕ) (xs : List ℕ) (x : ℕ) → length xs ≤ x → Below n (take x xs) → Below n xs
-unfolding Below
-below_all n [] x h b = tt
-below_all n (y ∷ xs) zero h b = absurd (omega arith)
-below_all n (y ∷ xs) (suc x) h b = (b.0, below_all n xs x (omega arith) b.1)
+below-each n [] f = tt
+below-each n (x ∷ xs) f = (f 0, below-each n xs (λ i. f (suc i)))
 
 -- ---- subscribers
 

@@ -1,13 +1,15 @@
 -- Numbers as bytes: what the code computes, and that reading and writing undo each other, over every width. Assumes nothing.
+use Rattle.std.specs.Int.{to_be_bytes}
+use mir.Syntax.{w16, w32}
 use mathlib.Core.Path.{◌≡◌, refl, sym, ap, ◌∙◌}
 use mathlib.Core.List.{List, [], ◌∷◌, ◌++◌}
-use Prim.Native.Nat.{ℕ, zero, suc, ◌+◌, ◌-◌, ◌*◌, ◌≤◌, ◌<◌}
+use Prim.Native.Nat.{ℕ, zero, suc, ◌+◌, ◌-◌, ◌*◌, ◌/◌, ◌^◌, ◌≤◌, ◌<◌}
 use native.Mathlib.Nat.{zero-add, sub-zero, zero-sub, suc-sub-suc}
 use native.Mathlib.Numerals.{add-one}
 use native.Mathlib.Omega.{arith}
 use lib.ListN.{length, get_or, take, drop, set, replicate, length-replicate, length-drop}
 use lib.Seq.{drop-cons, drop-drop, sets, sets-eq}
-use Rattle.planbytes.specs.Numbers.{number_after, number, numbers}
+use Rattle.planbytes.specs.Numbers.{high, number_after, number, numbers}
 
 -- ---- the bytes at a place
 
@@ -101,3 +103,16 @@ pub row-pad : (n w k : ℕ) (bs : List ℕ) → k ≤ n → sets (replicate n 0)
 row-pad n w k bs h =
     let few : length (numbers w k bs) ≤ n = rw (numbers-length w k bs) h in
     stores-pad n (numbers w k bs) few ∙ ap (λ (m : ℕ). numbers w k bs ++ replicate (n - m) 0) (numbers-length w k bs)
+
+-- ---- as Rust's own numbers give their bytes
+
+pub be-two : (n : ℕ) → to_be_bytes w16 n ≡ high 2 n
+unfolding high
+be-two n = refl
+
+pub be-four : (n : ℕ) → to_be_bytes w32 n ≡ high 4 n
+unfolding high
+be-four n =
+    let second : n / 256 ^ 2 ≡ n / 256 / 256 = omega arith in
+    let third : n / 256 ^ 3 ≡ n / 256 / 256 / 256 = omega arith in
+    rw (second, third)

@@ -6,56 +6,34 @@
 
 mod listing;
 
-ghost use Rattle.std.specs.Prelude.{IfOk};
-ghost use Rattle.std.specs.Counts.{IsPrefixLen};
-
-use console::say;
+use std::io;
 use std::rt::{Env, Files};
-use std::{fs, io, str};
 
 // One byte more than the longest file has: whatever comes after it is bytes too many as well.
 const ROOM: usize = 6437;
 
 fn check_input(rt: &(impl Print + Input)) -> io::Result<()> {
-    let mut file = [0u8; ROOM];
+    let mut file = [0; ROOM];
     let n = console::read_full(&mut rt.reader(), &mut file)?;
     listing::report(rt, &file[..n])
 }
 
-fn is_dash(name: &[u8]) -> bool {
-    if name.len() == 1 {
-        name[0] == b'-'
-    } else {
-        false
-    }
-}
-
-// The first bytes of a file, and how many. A folder can be opened, but an attempt to read it fails.
-fn read_file(rt: &impl Files, name: &[u8], file: &mut [u8]) -> io::Result<usize>
-    ensures { IfOk result (λ n. IsPrefixLen n file.new) }
-{
-    match str::from_utf8(name) {
-        Ok(path) => console::read_full(&mut fs::open(rt, path)?, file),
-        Err(_) => Err(io::Error::from(io::ErrorKind::InvalidInput)),
-    }
-}
-
 fn check_file(rt: &(impl Print + Files), name: &[u8]) -> io::Result<()> {
-    let mut file = [0u8; ROOM];
-    match read_file(rt, name, &mut file) {
+    let mut file = [0; ROOM];
+    match console::read_file(rt, name, &mut file) {
         Ok(n) => listing::report(rt, &file[..n]),
         Err(_) => {
-            say(rt, name)?;
-            say(rt, b": cannot be read\n")
+            rt.write_all(name)?;
+            println!(rt; ": cannot be read")
         }
     }
 }
 
 fn check_argument(rt: &(impl Print + Input + Files), name: &[u8]) -> io::Result<()> {
-    say(rt, b"== ")?;
-    say(rt, name)?;
-    say(rt, b"\n")?;
-    if is_dash(name) {
+    print!(rt; "== ")?;
+    rt.write_all(name)?;
+    println!(rt)?;
+    if name == b"-".as_slice() {
         check_input(rt)
     } else {
         check_file(rt, name)
@@ -68,8 +46,8 @@ fn main(rt: HostRuntime) -> io::Result<()> {
     if count < 2 {
         check_input(&rt)?;
     }
-    for i in 1usize..count {
-        let mut name = [0u8; 4096];
+    for i in 1..count {
+        let mut name = [0; 4096];
         if let Some(n) = console::argument(&rt, i, &mut name) {
             check_argument(&rt, &name[..n])?;
         }

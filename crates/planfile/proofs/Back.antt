@@ -1,5 +1,6 @@
 -- How far reading came, whatever the bytes: the fields that it passed are those of the plan so far. So bytes that are accepted are the file of what was read (F14).
 -- Assumes nothing.
+use Rattle.std.specs.Prelude.{Some, Result, Ok, Err, ⊤}
 use mathlib.Core.Path.{◌≡◌, refl, sym, ap, ◌∙◌}
 use mathlib.Core.Logic.{◌⊎◌, inl, inr, ⊎_elim}
 use mathlib.Core.Bool.{Bool, true, false, not, ◌&&◌, cond, true≢false}
@@ -14,20 +15,16 @@ use Rattle.typeset.proofs.Bools.{yes_or_no, and-make}
 use Rattle.typeset.proofs.Below.{every-none, every_more}
 use Rattle.refusal.specs.declared.Refusal.{Refusal}
 use Rattle.refusal.specs.declared.Refusal.TheVariants.{WrongEnd, WrongTag, WrongLength, RuleBroken, TooManySubscribers}
-use Rattle.refusal.specs.declared.Place.TheVariants.{At}
 use Rattle.refusal.specs.Numbers.{place_of}
 use Rattle.plan.specs.declared.Types.{Types}
 use Rattle.plan.specs.declared.Subscriber.{Subscriber}
 use Rattle.plan.specs.declared.Plan.{Plan}
-use Rattle.plan.specs.declared.Verdict.{Verdict}
-use Rattle.plan.specs.declared.Verdict.TheVariants.{Sound, Refused}
 use Rattle.plan.specs.Sound.{types_sound, source_sound, target_sound, subscriber_sound, sound}
 use Rattle.planbytes.specs.Numbers.{high, number, Below}
 use Rattle.planbytes.specs.Format.{field, version_body, sets_of, types_body, order_body, subscriber_body, subscriber_fields, head_fields, end_field, bytes_of}
 use Rattle.planbytes.proofs.Lengths.{field-length}
 use Rattle.planbytes.proofs.Rounds.{high-number, below-drop}
-use Rattle.planread.specs.declared.Reading.{Reading}
-use Rattle.planread.specs.Reading.{plan_of, blank_plan, tag_of, length_of, body_of, after, types_in, order_in, subscriber_in, allowed, ever_long, header, entered, kept, refused, accepted, ended, read_from, read_of}
+use Rattle.planread.specs.Reading.{plan_of, blank_plan, tag_of, length_of, body_of, after, types_in, order_in, subscriber_in, allowed, ever_long, header, entered, kept, ended, read_from, read_of}
 use Rattle.plan.specs.Parts.{no_subscriber}
 use Rattle.planread.proofs.Places.{every-alike}
 use Rattle.planread.proofs.Steps.{header-passed, read-refused, read-broken, read-on, read-end, version-next, types-next, source-next, target-next, end-next, subscriber-next}
@@ -116,7 +113,7 @@ module _ (at : ℕ) (left : List ℕ) (p : Below 256 left) where
   -- a subscriber that passed
   subscriber-on : (t : Types) (source target : List ℕ) (xs : List Subscriber) → HeadRead t source target → length xs ≤ 256 → AllTyped xs
       → every (length xs) (subscriber_sound t (filled xs)) ≡ true
-      → header 4 (length xs) at left ≡ Sound
+      → header 4 (length xs) at left ≡ Ok tt
       → kept (tag_of left) (body_of left) (entered (tag_of left) (body_of left) (state t source target xs)) ≡ true → ¬ (tag_of left ≡ 127)
       → Reached 4 (entered (tag_of left) (body_of left) (state t source target xs)) (head_fields t source target ++ subscriber_fields xs ++ field (tag_of left) (body_of left))
   unfolding entered kept
@@ -145,7 +142,7 @@ module _ (at : ℕ) (left : List ℕ) (p : Below 256 left) where
       (at_subscribers t source target (xs ++ (s ∷ [])) 𝓗 fits (typed-last xs s 𝓣 typed) all)
 
   -- the field is passed: the plan so far has it, and so have the bytes so far
-  step-on : {stage : ℕ} {q : Plan} {pre : List ℕ} → Reached stage q pre → header stage q.count at left ≡ Sound
+  step-on : {stage : ℕ} {q : Plan} {pre : List ℕ} → Reached stage q pre → header stage q.count at left ≡ Ok tt
       → kept (tag_of left) (body_of left) (entered (tag_of left) (body_of left) q) ≡ true → ¬ (tag_of left ≡ 127)
       → Reached (min (stage + 1) 4) (entered (tag_of left) (body_of left) q) (pre ++ field (tag_of left) (body_of left))
   unfolding entered kept version_body blank_plan filled head_fields subscriber_fields
@@ -192,35 +189,35 @@ module _ (at : ℕ) (left : List ℕ) (p : Below 256 left) where
 
 -- ---- what a refusal before the rules says of its place
 
-pub verdict-cases : (v : Verdict) → (v ≡ Sound) ⊎ ((r : Refusal) × (v ≡ Refused r))
-verdict-cases Sound = inl refl
-verdict-cases (Refused r) = inr (r, refl)
+pub verdict-cases : (v : (Result ⊤ Refusal)) → (v ≡ (Ok tt)) ⊎ ((r : Refusal) × (v ≡ Err r))
+verdict-cases (Ok _) = inl refl
+verdict-cases (Err r) = inr (r, refl)
 
-refused-is : (v : Verdict) (r s : Refusal) → Refused r ≡ Refused s → r ≡ s
+refused-is : (v : Result ⊤ Refusal) (r s : Refusal) → ◌≡◌ {A = Result ⊤ Refusal} (Err r) (Err s) → r ≡ s
 refused-is v r s e = cc
 
-cond-place : (b : Bool) (at : ℕ) (r s : Refusal) (v : Verdict) → place_of r ≡ At at → (v ≡ Refused s → place_of s ≡ At at) → cond b (Refused r) v ≡ Refused s → place_of s ≡ At at
+cond-place : (b : Bool) (at : ℕ) (r s : Refusal) (v : (Result ⊤ Refusal)) → place_of r ≡ Some at → (v ≡ Err s → place_of s ≡ Some at) → cond b (Err r) v ≡ Err s → place_of s ≡ Some at
 cond-place true at r s v e f q = ap place_of (sym (refused-is v r s q)) ∙ e
 cond-place false at r s v e f q = f q
 
-pub header-place : (stage count at : ℕ) (left : List ℕ) (s : Refusal) → header stage count at left ≡ Refused s → place_of s ≡ At at
+pub header-place : (stage count at : ℕ) (left : List ℕ) (s : Refusal) → header stage count at left ≡ Err s → place_of s ≡ Some at
 unfolding header
 header-place stage count at left s e =
     cond-place (ltb (length left) 3) at (WrongEnd at) s _ refl (λ e.
     cond-place (not (allowed stage (tag_of left))) at (WrongTag at) s _ refl (λ e.
     cond-place (eqb (tag_of left) 5 && leb 256 count) at (TooManySubscribers at) s _ refl (λ e.
     cond-place (not (ever_long (tag_of left) (length_of left))) at (WrongLength at) s _ refl (λ e.
-    cond-place (ltb (length left) (3 + length_of left)) at (WrongEnd at) s Sound refl (λ e. let z : ◌≡◌ {A = ℕ} 0 1 = cc in let no : ⊥ = omega arith in absurd no) e) e) e) e) e
+    cond-place (ltb (length left) (3 + length_of left)) at (WrongEnd at) s (Ok tt) refl (λ e. let z : ◌≡◌ {A = ℕ} 0 1 = cc in let no : ⊥ = omega arith in absurd no) e) e) e) e) e
 
 -- ---- what reading finds, from any place that it reached
 
-pub data Outcome (bs : List ℕ) : Reading → Type 0 where
+pub data Outcome (bs : List ℕ) : Result Plan Refusal → Type 0 where
   -- the file of a sound plan, which is the answer
-  whole : (q : Plan) → Typed q → sound q ≡ true → bs ≡ bytes_of q → Outcome bs (accepted q)
+  whole : (q : Plan) → Typed q → sound q ≡ true → bs ≡ bytes_of q → Outcome bs (Ok q)
   -- a refusal at the first byte of the field that it came to
-  stopped : (r : Refusal) {stage : ℕ} {q : Plan} {pre : List ℕ} (left : List ℕ) → Reached stage q pre → bs ≡ pre ++ left → place_of r ≡ At (length pre) → Outcome bs (refused r)
+  stopped : (r : Refusal) {stage : ℕ} {q : Plan} {pre : List ℕ} (left : List ℕ) → Reached stage q pre → bs ≡ pre ++ left → place_of r ≡ Some (length pre) → Outcome bs (Err r)
   -- the file of a sound plan, and bytes too many: a refusal at the first of them
-  trailing : (q : Plan) (left : List ℕ) → Typed q → sound q ≡ true → bs ≡ bytes_of q ++ left → ¬ (length left ≡ 0) → Outcome bs (refused (WrongEnd (length (bytes_of q))))
+  trailing : (q : Plan) (left : List ℕ) → Typed q → sound q ≡ true → bs ≡ bytes_of q ++ left → ¬ (length left ≡ 0) → Outcome bs (Err (WrongEnd (length (bytes_of q))))
 
 empty_of : (l : List ℕ) → length l ≡ 0 → l ≡ []
 empty_of [] e = refl
@@ -230,19 +227,15 @@ end-size : length end_field ≡ 3
 unfolding end_field
 end-size = field-length 127 []
 
-pub read_none : (stage : ℕ) (q : Plan) (at : ℕ) (left : List ℕ) → read_from zero stage q at left ≡ refused (TooManySubscribers at)
+pub read_none : (stage : ℕ) (q : Plan) (at : ℕ) (left : List ℕ) → read_from zero stage q at left ≡ Err (TooManySubscribers at)
 unfolding read_from
 read_none stage q at left = refl
 
-abbrev refused_only : Verdict → Bool
-refused_only Sound = false
-refused_only (Refused r) = true
-
-pub ended-none : (q : Plan) (at : ℕ) (left : List ℕ) → length left ≡ 0 → ended q at left ≡ accepted q
+pub ended-none : (q : Plan) (at : ℕ) (left : List ℕ) → length left ≡ 0 → ended q at left ≡ Ok q
 unfolding ended
 ended-none q at left e = rw e
 
-pub ended_some : (q : Plan) (at : ℕ) (left : List ℕ) → ¬ (length left ≡ 0) → ended q at left ≡ refused (WrongEnd at)
+pub ended_some : (q : Plan) (at : ℕ) (left : List ℕ) → ¬ (length left ≡ 0) → ended q at left ≡ Err (WrongEnd at)
 unfolding ended
 ended_some q at left e = rw (ne_eqb (length left) 0 e)
 
@@ -255,7 +248,7 @@ module _ (bs left : List ℕ) (at : ℕ) (p : Below 256 left) where
       field_back left p whole-body ∙ rw (tag, empty)
 
   end-outcome : {stage : ℕ} {q : Plan} {pre : List ℕ} → Reached stage q pre → bs ≡ pre ++ left → at ≡ length pre
-      → header stage q.count at left ≡ Sound → tag_of left ≡ 127 → Outcome bs (ended q (at + 3) (after left))
+      → header stage q.count at left ≡ Ok tt → tag_of left ≡ 127 → Outcome bs (ended q (at + 3) (after left))
   unfolding blank_plan
   end-outcome at_start b l h tag = let no : ⊥ = omega (arith, (version-next 0 left (header-passed 0 0 at left h)).0) in absurd no
   end-outcome at_types b l h tag = let no : ⊥ = omega (arith, (types-next 0 left (header-passed 1 0 at left h)).0) in absurd no
@@ -286,10 +279,10 @@ module _ (bs left : List ℕ) (at : ℕ) (p : Below 256 left) where
 pub outcome : (n : ℕ) {stage : ℕ} {q : Plan} {pre : List ℕ} (bs left : List ℕ) (at : ℕ) → Reached stage q pre → bs ≡ pre ++ left → at ≡ length pre → Below 256 left
     → Outcome bs (read_from n stage q at left)
 unfolding after
-outcome zero {stage} {q} bs left at 𝓡 b l p = rw (read_none stage q at left) (stopped (TooManySubscribers at) left 𝓡 b (ap At l))
+outcome zero {stage} {q} bs left at 𝓡 b l p = rw (read_none stage q at left) (stopped (TooManySubscribers at) left 𝓡 b (ap Some l))
 outcome (suc n) {stage} {q} {pre} bs left at 𝓡 b l p =
     ⊎_elim
-    (λ (h : header stage q.count at left ≡ Sound).
+    (λ (h : header stage q.count at left ≡ (Ok tt)).
     ⊎_elim
     (λ (k : kept (tag_of left) (body_of left) (entered (tag_of left) (body_of left) q) ≡ true).
     ⊎_elim
@@ -309,10 +302,10 @@ outcome (suc n) {stage} {q} {pre} bs left at 𝓡 b l p =
     (below-drop 256 (3 + length_of left) left p)))
     (yes_or_no (eqb (tag_of left) 127)))
     (λ (k : kept (tag_of left) (body_of left) (entered (tag_of left) (body_of left) q) ≡ false).
-    rw (read-broken n stage q at left h k) (stopped (RuleBroken at) left 𝓡 b (ap At l)))
+    rw (read-broken n stage q at left h k) (stopped (RuleBroken at) left 𝓡 b (ap Some l)))
     (yes_or_no (kept (tag_of left) (body_of left) (entered (tag_of left) (body_of left) q))))
-    (λ (h : (r : Refusal) × (header stage q.count at left ≡ Refused r)).
-    rw (read-refused n stage q at left h.1) (stopped h.0 left 𝓡 b (header-place stage q.count at left h.0 h.1 ∙ ap At l)))
+    (λ (h : (r : Refusal) × (header stage q.count at left ≡ Err r)).
+    rw (read-refused n stage q at left h.1) (stopped h.0 left 𝓡 b (header-place stage q.count at left h.0 h.1 ∙ ap Some l)))
     (verdict-cases (header stage q.count at left))
 
 -- whatever the bytes
@@ -327,16 +320,16 @@ pub record File (bs : List ℕ) (q : Plan) : Type 0 where
   pub kept-all : sound q ≡ true
   pub bytes : bytes_of q ≡ bs
 
-same-plan : (a b : Plan) → accepted a ≡ accepted b → a ≡ b
-same-plan a b e = ap (λ (x : Reading). x.plan) e
+same-plan : (a b : Plan) → ◌≡◌ {A = Result Plan Refusal} (Ok a) (Ok b) → a ≡ b
+same-plan a b e = cc
 
-pub never : (r : Refusal) (b : Plan) → refused r ≡ accepted b → ⊥
-never r b e = let z : refused_only (refused r).answer ≡ refused_only (accepted b).answer = ap (λ (x : Reading). refused_only x.answer) e in true≢false z
+pub never : (r : Refusal) (b : Plan) → ◌≡◌ {A = Result Plan Refusal} (Err r) (Ok b) → ⊥
+never r b e = let z : ◌≡◌ {A = ℕ} 0 1 = cc in omega (arith, z)
 
-file-of : (bs : List ℕ) (x : Reading) (q : Plan) → Outcome bs x → x ≡ accepted q → File bs q
+file-of : (bs : List ℕ) (x : Result Plan Refusal) (q : Plan) → Outcome bs x → x ≡ Ok q → File bs q
 file-of bs x q (whole a t s b) e = let f : File bs a = record { typed = t; kept-all = s; bytes = sym b } in rw (same-plan a q e) at f
 file-of bs x q (stopped r left 𝓡 b l) e = absurd (never r q e)
 file-of bs x q (trailing a left t s b n) e = absurd (never (WrongEnd (length (bytes_of a))) q e)
 
-pub back-and-there : (bs : List ℕ) → Below 256 bs → (q : Plan) → read_of bs ≡ accepted q → File bs q
+pub back-and-there : (bs : List ℕ) → Below 256 bs → (q : Plan) → read_of bs ≡ Ok q → File bs q
 back-and-there bs p q e = file-of bs (read_of bs) q (reads bs p) e

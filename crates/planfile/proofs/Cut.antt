@@ -1,4 +1,5 @@
 -- Of a long input the first 6,437 bytes decide: what comes after them changes neither the refusal nor its place. Assumes nothing.
+use Rattle.std.specs.Prelude.{Ok, Err}
 use mathlib.Core.Path.{◌≡◌, refl, sym, ap, ◌∙◌}
 use mathlib.Core.Logic.{⊎_elim}
 use mathlib.Core.Bool.{true, false, ◌&&◌}
@@ -12,7 +13,6 @@ use borrow.Author.Tests.{eqb-true, eqb-false, leb-true, leb-false, le-ltb}
 use Rattle.typeset.proofs.Bools.{yes_or_no, and_left, and_right, or_cases}
 use Rattle.refusal.specs.declared.Refusal.{Refusal}
 use Rattle.plan.specs.declared.Plan.{Plan}
-use Rattle.plan.specs.declared.Verdict.TheVariants.{Sound, Refused}
 use Rattle.planread.specs.Reading.{blank_plan, tag_of, length_of, body_of, after, allowed, ever_long, header, entered, kept, read_from, read_of}
 use Rattle.planread.proofs.Steps.{Passed, header-passed, drop-take, part_of, read-refused, read-broken, read-on, read-end}
 use Rattle.planfile.proofs.Back.{verdict-cases, ended_some}
@@ -74,9 +74,9 @@ module _ (left : List ℕ) (m : ℕ) (low : 3 ≤ m) (high : m ≤ length left) 
         → read_from (suc n) stage p at (take m left) ≡ read_from (suc n) stage p at left
     cut_step n more on =
         ⊎_elim
-        (λ (h : header stage p.count at left ≡ Sound).
+        (λ (h : header stage p.count at left ≡ (Ok tt)).
         let 𝓟 = header-passed stage p.count at left h in
-        let cut : header stage p.count at (take m left) ≡ Sound = header-same ∙ h in
+        let cut : header stage p.count at (take m left) ≡ (Ok tt) = header-same ∙ h in
         let inside = bound 𝓟.fine 𝓟.few 𝓟.ever in
         let body = body-cut inside in
         ⊎_elim
@@ -102,7 +102,7 @@ module _ (left : List ℕ) (m : ℕ) (low : 3 ≤ m) (high : m ≤ length left) 
         let k' : kept (tag_of (take m left)) (body_of (take m left)) (entered (tag_of (take m left)) (body_of (take m left)) p) ≡ false = rw (tag-cut, body) k in
         read-broken n stage p at (take m left) cut k' ∙ sym (read-broken n stage p at left h k))
         (yes_or_no (kept (tag_of left) (body_of left) (entered (tag_of left) (body_of left) p))))
-        (λ (h : (r : Refusal) × (header stage p.count at left ≡ Refused r)).
+        (λ (h : (r : Refusal) × (header stage p.count at left ≡ Err r)).
         read-refused n stage p at (take m left) (header-same ∙ h.1) ∙ sym (read-refused n stage p at left h.1))
         (verdict-cases (header stage p.count at left))
 

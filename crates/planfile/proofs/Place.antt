@@ -1,4 +1,5 @@
 -- The place of a refusal: up to it the bytes are the first fields, whole, of a sound plan's file, and up to no later place are they. Assumes nothing.
+use Rattle.std.specs.Prelude.{Some, Ok, Err, Result}
 use mathlib.Core.Path.{◌≡◌, refl, sym, ap, ◌∙◌}
 use mathlib.Core.Logic.{⊎_elim}
 use mathlib.Core.Bool.{true, false}
@@ -15,20 +16,17 @@ use Rattle.typeset.proofs.Below.{every-none}
 use Rattle.typeset.proofs.Laws.{split}
 use Rattle.refusal.specs.declared.Refusal.{Refusal}
 use Rattle.refusal.specs.declared.Refusal.TheVariants.{WrongEnd, RuleBroken, TooManySubscribers}
-use Rattle.refusal.specs.declared.Place.TheVariants.{At}
 use Rattle.refusal.specs.Numbers.{place_of}
 use Rattle.plan.specs.declared.Types.{Types}
 use Rattle.plan.specs.declared.Subscriber.{Subscriber}
 use Rattle.plan.specs.declared.Plan.{Plan}
-use Rattle.plan.specs.declared.Verdict.TheVariants.{Sound, Refused}
 use Rattle.plan.specs.Rules.{types_exist, reversible_in_both, bound_in_both}
 use Rattle.plan.specs.Sound.{types_sound, source_sound, subscriber_sound, sound}
 use Rattle.plan.proofs.Laws.{types-kept, source-kept}
 use Rattle.planbytes.specs.Numbers.{Below}
 use Rattle.planbytes.specs.Format.{field, version_body, sets_of, types_body, order_body, subscriber_body, subscriber_fields, head_fields, end_field, bytes_of}
 use Rattle.planbytes.proofs.Lengths.{high-length, field-length, types-length, order-length, head-length}
-use Rattle.planread.specs.declared.Reading.{Reading}
-use Rattle.planread.specs.Reading.{no_types, blank_plan, tag_of, length_of, body_of, after, header, entered, kept, refused, ended, read_from, read_of}
+use Rattle.planread.specs.Reading.{no_types, blank_plan, tag_of, length_of, body_of, after, header, entered, kept, ended, read_from, read_of}
 use Rattle.planread.proofs.Steps.{read-refused, read-broken, read-on, read-end}
 use Rattle.planfile.specs.Typed.{Typed}
 use Rattle.planfile.specs.Beginning.{fields_of, joined, Follows}
@@ -175,16 +173,16 @@ reached-follows bs left (at_subscribers t source target xs 𝓗 room 𝓣 ok) b 
 
 -- ---- reading from a place on refuses at no earlier place
 
-abbrev NotBefore : ℕ → Reading → Type 0
-NotBefore at x = (r : Refusal) (place : ℕ) → x ≡ refused r → place_of r ≡ At place → at ≤ place
+abbrev NotBefore : ℕ → Result Plan Refusal → Type 0
+NotBefore at x = (r : Refusal) (place : ℕ) → x ≡ Err r → place_of r ≡ Some place → at ≤ place
 
-same-refusal : (r s : Refusal) → refused r ≡ refused s → r ≡ s
-same-refusal r s e = let a : Refused r ≡ Refused s = ap (λ (x : Reading). x.answer) e in cc
+same-refusal : (r s : Refusal) → ◌≡◌ {A = Result Plan Refusal} (Err r) (Err s) → r ≡ s
+same-refusal r s e = cc
 
-same_place : (a b : ℕ) → At a ≡ At b → a ≡ b
+same_place : (a b : ℕ) → Some a ≡ Some b → a ≡ b
 same_place a b e = cc
 
-at_place : (at : ℕ) (s : Refusal) → place_of s ≡ At at → NotBefore at (refused s)
+at_place : (at : ℕ) (s : Refusal) → place_of s ≡ Some at → NotBefore at (Err s)
 at_place at s p r place e q =
     let same : at ≡ place = same_place at place (sym p ∙ ap place_of (same-refusal s r e) ∙ q) in omega arith
 
@@ -195,14 +193,14 @@ ended-place p at left =
     (λ (z : eqb (length left) 0 ≡ false). rw (ended_some p at left (eqb-false (length left) 0 z)) (at_place at (WrongEnd at) refl))
     (yes_or_no (eqb (length left) 0))
 
-later : (at to : ℕ) (x : Reading) → at ≤ to → NotBefore to x → NotBefore at x
+later : (at to : ℕ) (x : Result Plan Refusal) → at ≤ to → NotBefore to x → NotBefore at x
 later at to x h f r place e q = let g = f r place e q in omega arith
 
 not-before : (n stage : ℕ) (p : Plan) (at : ℕ) (left : List ℕ) → NotBefore at (read_from n stage p at left)
 not-before zero stage p at left = rw (read_none stage p at left) (at_place at (TooManySubscribers at) refl)
 not-before (suc n) stage p at left =
     ⊎_elim
-    (λ (h : header stage p.count at left ≡ Sound).
+    (λ (h : header stage p.count at left ≡ (Ok tt)).
     ⊎_elim
     (λ (k : kept (tag_of left) (body_of left) (entered (tag_of left) (body_of left) p) ≡ true).
     ⊎_elim
@@ -217,7 +215,7 @@ not-before (suc n) stage p at left =
     (λ (k : kept (tag_of left) (body_of left) (entered (tag_of left) (body_of left) p) ≡ false).
     rw (read-broken n stage p at left h k) (at_place at (RuleBroken at) refl))
     (yes_or_no (kept (tag_of left) (body_of left) (entered (tag_of left) (body_of left) p))))
-    (λ (h : (r : Refusal) × (header stage p.count at left ≡ Refused r)).
+    (λ (h : (r : Refusal) × (header stage p.count at left ≡ Err r)).
     rw (read-refused n stage p at left h.1) (at_place at h.0 (header-place stage p.count at left h.0 h.1)))
     (verdict-cases (header stage p.count at left))
 
@@ -292,23 +290,23 @@ module _ (p : Plan) (𝓣 : Typed p) (𝓢 : sound p ≡ true) where
 -- with which they are not, or, where all fields up to the end field are a sound plan's, the first byte too many.
 pub record PlaceIs (bs : List ℕ) (r : Refusal) : Type 0 where
   pub place : ℕ
-  pub is : place_of r ≡ At place
+  pub is : place_of r ≡ Some place
   pub follows : Follows bs place
   pub greatest : (later : ℕ) → Follows bs later → later ≤ place
 
-bound : (bs : List ℕ) (r : Refusal) (place : ℕ) → read_of bs ≡ refused r → place_of r ≡ At place → (later : ℕ) → Follows bs later → later ≤ place
+bound : (bs : List ℕ) (r : Refusal) (place : ℕ) → read_of bs ≡ Err r → place_of r ≡ Some place → (later : ℕ) → Follows bs later → later ≤ place
 bound bs r place e q to 𝓕 =
     let h = behind 𝓕.plan 𝓕.plan_typed 𝓕.plan_sound 𝓕.fields 𝓕.rest r place (ap read_of (sym 𝓕.begins) ∙ e) q in
     rw 𝓕.here at h
 
-place-of : (bs : List ℕ) (x : Reading) (r : Refusal) → Outcome bs x → x ≡ refused r → read_of bs ≡ refused r → PlaceIs bs r
+place-of : (bs : List ℕ) (x : Result Plan Refusal) (r : Refusal) → Outcome bs x → x ≡ Err r → read_of bs ≡ Err r → PlaceIs bs r
 unfolding fields_of
 place-of bs x r (whole q t s b) e f = absurd (never r q (sym e))
 place-of bs x r (stopped s {pre = pre} left 𝓡 b l) e f =
-    let is : place_of r ≡ At (length pre) = ap place_of (sym (same-refusal s r e)) ∙ l in
+    let is : place_of r ≡ Some (length pre) = ap place_of (sym (same-refusal s r e)) ∙ l in
     record { place = length pre; is = is; follows = reached-follows bs left 𝓡 b; greatest = bound bs r (length pre) f is }
 place-of bs x r (trailing q left t s b n) e f =
-    let is : place_of r ≡ At (length (bytes_of q)) = ap place_of (sym (same-refusal (WrongEnd (length (bytes_of q))) r e)) in
+    let is : place_of r ≡ Some (length (bytes_of q)) = ap place_of (sym (same-refusal (WrongEnd (length (bytes_of q))) r e)) in
     let all = joined-all q (suc (length (take q.count q.subscribers))) (omega arith) in
     let 𝓕 : Follows bs (length (bytes_of q)) =
     record {
@@ -322,7 +320,7 @@ place-of bs x r (trailing q left t s b n) e f =
     } in
     record { place = length (bytes_of q); is = is; follows = 𝓕; greatest = bound bs r (length (bytes_of q)) f is }
 
-pub place_is : (bs : List ℕ) → Below 256 bs → (r : Refusal) → read_of bs ≡ refused r → PlaceIs bs r
+pub place_is : (bs : List ℕ) → Below 256 bs → (r : Refusal) → read_of bs ≡ Err r → PlaceIs bs r
 place_is bs b r e = place-of bs (read_of bs) r (reads bs b) e e
 
 -- there is only one such place

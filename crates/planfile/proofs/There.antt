@@ -1,4 +1,5 @@
 -- Reading the fields of a sound plan's file, with anything after them: field by field, and the whole (F13). Assumes nothing.
+use Rattle.std.specs.Prelude.{Ok}
 use mathlib.Core.Path.{◌≡◌, refl, sym, ap, ◌∙◌}
 use mathlib.Core.Bool.{true, ◌&&◌}
 use mathlib.Core.List.{List, [], ◌∷◌, ◌++◌, append_assoc, append-nil}
@@ -20,7 +21,7 @@ use Rattle.plan.proofs.Laws.{few, types-kept, source-kept, target-kept, subscrib
 use Rattle.planbytes.specs.Numbers.{high, number_after, number, Below}
 use Rattle.planbytes.specs.Format.{field, version_body, sets_of, types_body, order_body, subscriber_body, subscriber_fields, head_fields, end_field, bytes_of}
 use Rattle.planbytes.proofs.Lengths.{types-length, order-length, field-length}
-use Rattle.planread.specs.Reading.{plan_of, blank_plan, allowed, ever_long, entered, kept, accepted, ended, read_from, read_of}
+use Rattle.planread.specs.Reading.{plan_of, blank_plan, allowed, ever_long, entered, kept, ended, read_from, read_of}
 use Rattle.plan.specs.Parts.{no_subscriber}
 use Rattle.planread.proofs.Places.{sound-alike, every-alike}
 use Rattle.planwrite.proofs.Files.{file-length}
@@ -177,6 +178,6 @@ module _ (p : Plan) (𝓣 : Typed p) (𝓢 : sound p ≡ true) where
       (read-end-field (256 - p.count) p (289 + length (subscriber_fields (take p.count p.subscribers))) rest ∙ ap (λ (n : ℕ). ended p n rest) place))
 
   -- F13: reading the file of a sound plan gives that plan
-  pub there_and_back : read_of (bytes_of p) ≡ accepted p
+  pub there_and_back : read_of (bytes_of p) ≡ Ok p
   unfolding ended
   there_and_back = ap read_of (sym (append-nil (bytes_of p))) ∙ read-file []

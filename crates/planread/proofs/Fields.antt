@@ -1,4 +1,5 @@
 -- The parts of a field at a place of the file. Assumes nothing.
+use Rattle.std.specs.Prelude.{Ok, Err}
 use mathlib.Core.Path.{◌≡◌, refl, sym, ap, ap₂, ◌∙◌}
 use mathlib.Core.List.{List, [], ◌∷◌, ◌++◌}
 use Prim.Native.Nat.{ℕ, zero, suc, ◌+◌, ◌-◌, ◌*◌, ◌≤◌, ◌<◌}
@@ -10,7 +11,6 @@ use lib.ListN.{length, get_or, take, drop, replicate, length-drop}
 use lib.Seq.{drop-drop}
 use Rattle.refusal.specs.declared.Refusal.TheVariants.{WrongEnd, WrongTag, WrongLength, TooManySubscribers}
 use Rattle.plan.specs.declared.Types.{Types}
-use Rattle.plan.specs.declared.Verdict.TheVariants.{Sound, Refused}
 use Rattle.plan.specs.declared.Subscriber.{Subscriber}
 use Rattle.planbytes.specs.Numbers.{number, numbers}
 use Rattle.planread.specs.Reading.{tag_of, length_of, types_in, subscriber_with, allowed, ever_long, header}
@@ -59,7 +59,7 @@ subscriber-at bs at k h p q r b =
 
 -- ---- the tests at a field at a place, each where the earlier ones passed
 module _ (stage count at : ℕ) (bs : List ℕ) where
-  pub header-cut : length bs - at < 3 → header stage count at (drop at bs) ≡ Refused (WrongEnd at)
+  pub header-cut : length bs - at < 3 → header stage count at (drop at bs) ≡ Err (WrongEnd at)
   unfolding header
   header-cut h = rw (length-drop at bs, lt-ltb (length bs - at) 3 h)
 
@@ -67,27 +67,27 @@ module _ (stage count at : ℕ) (bs : List ℕ) where
     inside : at < length bs
     inside = omega arith
 
-    pub header-tag : allowed stage (get_or bs at 0) ≡ false → header stage count at (drop at bs) ≡ Refused (WrongTag at)
+    pub header-tag : allowed stage (get_or bs at 0) ≡ false → header stage count at (drop at bs) ≡ Err (WrongTag at)
     unfolding header
     header-tag e = rw (length-drop at bs, le-ltb (length bs - at) 3 whole, tag_at bs at inside, e)
 
     module _ (fine : allowed stage (get_or bs at 0) ≡ true) where
-      pub header-many : (eqb (get_or bs at 0) 5 && leb 256 count) ≡ true → header stage count at (drop at bs) ≡ Refused (TooManySubscribers at)
+      pub header-many : (eqb (get_or bs at 0) 5 && leb 256 count) ≡ true → header stage count at (drop at bs) ≡ Err (TooManySubscribers at)
       unfolding header
       header-many e = rw (length-drop at bs, le-ltb (length bs - at) 3 whole, tag_at bs at inside, fine, e)
 
       module _ (few : (eqb (get_or bs at 0) 5 && leb 256 count) ≡ false) {n : ℕ} (long : n ≡ number (take 2 (drop (at + 1) bs))) where
-        pub header-long : ever_long (get_or bs at 0) n ≡ false → header stage count at (drop at bs) ≡ Refused (WrongLength at)
+        pub header-long : ever_long (get_or bs at 0) n ≡ false → header stage count at (drop at bs) ≡ Err (WrongLength at)
         unfolding header
         header-long e = rw (length-drop at bs, le-ltb (length bs - at) 3 whole, tag_at bs at inside, fine, few, length_at bs at, ← long, e)
 
         module _ (ever : ever_long (get_or bs at 0) n ≡ true) where
-          pub header-body : length bs - at < 3 + n → header stage count at (drop at bs) ≡ Refused (WrongEnd at)
+          pub header-body : length bs - at < 3 + n → header stage count at (drop at bs) ≡ Err (WrongEnd at)
           unfolding header
           header-body h =
               rw (length-drop at bs, le-ltb (length bs - at) 3 whole, tag_at bs at inside, fine, few, length_at bs at, ← long, ever, lt-ltb (length bs - at) (3 + n) h)
 
-          pub header-whole : 3 + n ≤ length bs - at → header stage count at (drop at bs) ≡ Sound
+          pub header-whole : 3 + n ≤ length bs - at → header stage count at (drop at bs) ≡ Ok tt
           unfolding header
           header-whole h =
               rw (length-drop at bs, le-ltb (length bs - at) 3 whole, tag_at bs at inside, fine, few, length_at bs at, ← long, ever, le-ltb (length bs - at) (3 + n) h)

@@ -1,31 +1,21 @@
 -- A fixed field that is refused ends the reading. Assumes nothing.
-use mathlib.Core.Path.{◌≡◌, sym, ap, ◌∙◌}
-use mathlib.Core.List.{List}
-use Prim.Native.Nat.{ℕ, ◌≤◌}
-use native.Mathlib.Omega.{arith}
-use lib.ListN.{length, drop, replicate}
+use Rattle.std.proofs.Common.{◌≡◌, ℕ, ◌≤◌, true, List, length, Result, Ok, Err, sym, ap, ◌∙◌}
+use Rattle.std.specs.Prelude.{drop, replicate, is_ok}
+use mathlib.Core.Bool.{false≢true}
 use Rattle.refusal.specs.declared.Refusal.{Refusal}
-use Rattle.plan.specs.declared.Types.{Types}
-use Rattle.plan.specs.declared.Verdict.{Verdict}
-use Rattle.plan.specs.declared.Verdict.TheVariants.{Sound, Refused}
-use Rattle.planread.specs.declared.Reading.{Reading}
+use Rattle.plan.specs.declared.Plan.{Plan}
 use Rattle.plan.specs.Parts.{no_subscriber}
-use Rattle.planread.specs.Reading.{plan_of, refused, read_from}
+use Rattle.planread.specs.declared.Head.{Head}
+use Rattle.planread.specs.Reading.{plan_of, read_from}
 use Rattle.planread.specs.Scanning.{onward}
 
-abbrev told : Verdict → ℕ
-told Sound = 0
-told (Refused r) = 1
-
-pub not_on : {v : Verdict} (t : Types) (source target bs : List ℕ) {r : Refusal} {x : Reading} → v ≡ Refused r → x ≡ refused r
-    → (onward v t source target bs ≡ x) × (v ≡ Sound → 289 ≤ length bs)
-not_on t source target bs e k =
-    (ap (λ (w : Verdict). onward w t source target bs) e ∙ sym k, λ s. let never : ◌≡◌ {A = ℕ} 1 0 = ap told (sym e ∙ s) in absurd (omega arith))
+pub not_on : {h : Result Head Refusal} (bs : List ℕ) {r : Refusal} {x : Result Plan Refusal} → h ≡ Err r → x ≡ Err r → (onward h bs ≡ x) × (is_ok h ≡ true → 289 ≤ length bs)
+not_on bs e k = (ap (λ (w : Result Head Refusal). onward w bs) e ∙ sym k, λ s. absurd (false≢true (sym (ap (λ (w : Result Head Refusal). is_ok w) e) ∙ s)))
 
 -- reading on by what the fixed fields gave
-module _ (t : Types) (source target bs : List ℕ) {v : Verdict} {x : Reading} (e : onward v t source target bs ≡ x) where
-  pub on-refused : {r : Refusal} → v ≡ Refused r → refused r ≡ x
-  on-refused k = ap (λ (w : Verdict). onward w t source target bs) (sym k) ∙ e
+module _ (bs : List ℕ) {h : Result Head Refusal} {x : Result Plan Refusal} (e : onward h bs ≡ x) where
+  pub on-refused : {r : Refusal} → h ≡ Err r → x ≡ Err r
+  on-refused k = sym e ∙ ap (λ (w : Result Head Refusal). onward w bs) k
 
-  pub on-sound : v ≡ Sound → read_from 257 4 (plan_of t source target (replicate 256 no_subscriber) 0) 289 (drop 289 bs) ≡ x
-  on-sound k = ap (λ (w : Verdict). onward w t source target bs) (sym k) ∙ e
+  pub on-sound : {f : Head} → h ≡ Ok f → read_from 257 4 (plan_of f.types f.source f.target (replicate 256 no_subscriber) 0) 289 (drop 289 bs) ≡ x
+  on-sound k = ap (λ (w : Result Head Refusal). onward w bs) (sym k) ∙ e

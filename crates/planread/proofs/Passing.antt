@@ -1,4 +1,5 @@
 -- What holds at each turn of the loop that looks through the subscribers: what holds where they are kept, for some subscribers that nobody keeps; and of these the two addresses' are at hand. Assumes nothing.
+use Rattle.std.specs.Prelude.{Result, Ok, Err, ⊤}
 use mathlib.Core.Path.{◌≡◌, refl, sym, ap, ◌∙◌}
 use mathlib.Core.Logic.{⊎_elim}
 use mathlib.Core.List.{List}
@@ -8,16 +9,14 @@ use lib.ListN.{length, set, replicate}
 use Rattle.refusal.specs.declared.Refusal.{Refusal}
 use Rattle.typeset.proofs.Bools.{yes_or_no}
 use Rattle.plan.specs.declared.Types.{Types}
-use Rattle.plan.specs.declared.Verdict.{Verdict}
-use Rattle.plan.specs.declared.Verdict.TheVariants.{Sound, Refused}
 use Rattle.plan.specs.declared.Subscriber.{Subscriber}
 use Rattle.plan.specs.Parts.{no_subscriber}
 use Rattle.plan.specs.Find.{holder_at, seen}
 use Rattle.plan.proofs.Sight.{holder-new, holder-kept, holder-none}
-use Rattle.planread.specs.declared.Reading.{Reading}
-use Rattle.planread.specs.declared.Sight.{Sight}
-use Rattle.planread.specs.Reading.{plan_of, blank_plan, refused, ended}
-use Rattle.planread.specs.Scanning.{scanned, unseen, shown_end, sighted}
+use Rattle.planread.specs.Reading.{plan_of, ended}
+use native.Mathlib.Omega.{arith}
+use Rattle.plan.specs.declared.Plan.{Plan}
+use Rattle.planread.specs.Scanning.{scanned, judged, shown_end, sighted}
 use Rattle.planread.proofs.Places.{set-alike, set_there}
 use Rattle.planread.proofs.Going.{Going, going-none}
 
@@ -53,31 +52,35 @@ module _ (bs : List ℕ) (t : Types) (source target : List ℕ) (first second : 
 
 -- ---- what is answered
 
-module _ {v : Verdict} (t : Types) (source target : List ℕ) (one other : Subscriber) where
-  pub sighted-refused : {r : Refusal} → v ≡ Refused r → sighted v t source target one other ≡ unseen r
-  sighted-refused e = ap (λ (w : Verdict). sighted w t source target one other) e
-
-  -- the verdict is the answer's
-  pub sighted-answer : (sighted v t source target one other).answer ≡ v
-  unfolding unseen
-  sighted-answer = by v
-    where
-      by : (w : Verdict) → (sighted w t source target one other).answer ≡ w
-      by Sound = refl
-      by (Refused r) = refl
-
-pub passed-answer : {v : Verdict} (t : Types) (source target : List ℕ) (one other : Subscriber) (first second : ℕ) (x : Reading)
-    → sighted v t source target one other ≡ scanned first second x → v ≡ x.answer
+pub scanned-refused : (first second : ℕ) {r : Refusal} {x : Result Plan Refusal} → x ≡ Err r → scanned first second x ≡ Err r
 unfolding scanned
-passed-answer t source target one other first second x e = sym (sighted-answer t source target one other) ∙ ap (λ (z : Sight). z.answer) e
+scanned-refused first second e = rw e
 
-pub scanned-refused : (first second : ℕ) {r : Refusal} {x : Reading} → x ≡ refused r → scanned first second x ≡ unseen r
-unfolding scanned unseen seen blank_plan
-scanned-refused first second e = rw (e, holder-none blank_plan first refl, holder-none blank_plan second refl) refl
+pub sighted-refused : {v : Result (Subscriber × Subscriber) Refusal} (t : Types) (source target : List ℕ) {r : Refusal} → v ≡ Err r → sighted v t source target ≡ Err r
+sighted-refused t source target e = rw e
+
+-- whether the subscribers were passed
+abbrev pub passed : Result (Subscriber × Subscriber) Refusal → Result ⊤ Refusal
+passed (Ok two) = Ok tt
+passed (Err r) = Err r
+
+-- a file that is looked through is refused as where it is read
+pub passed-answer : (v : Result (Subscriber × Subscriber) Refusal) (t : Types) (source target : List ℕ) (first second : ℕ) (x : Result Plan Refusal)
+    → sighted v t source target ≡ scanned first second x → passed v ≡ judged x
+unfolding scanned
+passed-answer (Ok two) t source target first second (Ok p) e = refl
+passed-answer (Err r) t source target first second (Err q) e = let same : r ≡ q = cc in ap Err same
+passed-answer (Ok two) t source target first second (Err q) e = let never : ◌≡◌ {A = ℕ} 0 1 = cc in absurd (omega arith)
+passed-answer (Err r) t source target first second (Ok p) e = let never : ◌≡◌ {A = ℕ} 0 1 = cc in absurd (omega arith)
+
+pub sighted-end : (t : Types) (source target : List ℕ) (one other : Subscriber) (at : ℕ) (left : List ℕ)
+    → sighted (ended (one, other) at left) t source target ≡ shown_end t source target one other at left
+unfolding ended shown_end
+sighted-end t source target one other at left = ⊎_elim (λ e. rw e) (λ e. rw e) (yes_or_no (eqb (length left) 0))
 
 pub scanned-end : (t : Types) (source target : List ℕ) (subs : List Subscriber) (count : ℕ) (first second at : ℕ) (left : List ℕ)
     → scanned first second (ended (plan_of t source target subs count) at left)
     ≡ shown_end t source target (holder_at (plan_of t source target subs count) first) (holder_at (plan_of t source target subs count) second) at left
 unfolding ended shown_end scanned seen
 scanned-end t source target subs count first second at left =
-    ⊎_elim (λ e. rw e refl) (λ e. rw e (scanned-refused first second refl)) (yes_or_no (eqb (length left) 0))
+    ⊎_elim (λ e. rw e refl) (λ e. rw e refl) (yes_or_no (eqb (length left) 0))

@@ -1,4 +1,5 @@
 -- Reading, one field at a time. Assumes nothing.
+use Rattle.std.specs.Prelude.{Result, Ok, Err, ⊤}
 use mathlib.Core.Path.{◌≡◌, refl, sym, ap, ◌∙◌}
 use mathlib.Core.Logic.{⊎_elim}
 use mathlib.Core.Bool.{Bool, true, false, not, ◌&&◌, cond}
@@ -15,11 +16,9 @@ use Rattle.refusal.specs.declared.Refusal.{Refusal}
 use Rattle.refusal.specs.declared.Refusal.TheVariants.{WrongEnd, WrongTag, WrongLength, RuleBroken, TooManySubscribers}
 use Rattle.typeset.specs.Sets.{every}
 use Rattle.plan.specs.declared.Plan.{Plan}
-use Rattle.plan.specs.declared.Verdict.{Verdict}
-use Rattle.plan.specs.declared.Verdict.TheVariants.{Sound, Refused}
 use Rattle.plan.specs.Rules.{boxes_blank}
 use Rattle.planbytes.specs.Numbers.{number, numbers}
-use Rattle.planread.specs.Reading.{tag_of, length_of, body_of, after, types_in, order_in, subscriber_with, allowed, ever_long, entered, kept, header, verdict_at, refused, ended, read_from}
+use Rattle.planread.specs.Reading.{tag_of, length_of, body_of, after, types_in, order_in, subscriber_with, allowed, ever_long, entered, kept, header, verdict_at, ended, read_from}
 use Rattle.planbytes.proofs.Numbers.{numbers-length}
 
 -- ---- what the tests before the rules say of a field that passed them
@@ -32,11 +31,11 @@ pub record Passed (stage count : ℕ) (left : List ℕ) : Type 0 where
   pub body : 3 + length_of left ≤ length left
 
 -- a test that would have refused
-cond-sound : (b : Bool) (r : Refusal) (v : Verdict) → cond b (Refused r) v ≡ Sound → (b ≡ false) × (v ≡ Sound)
+cond-sound : (b : Bool) (r : Refusal) (v : (Result ⊤ Refusal)) → cond b (Err r) v ≡ Ok tt → (b ≡ false) × (v ≡ Ok tt)
 cond-sound true r v e = let z : ◌≡◌ {A = ℕ} 0 1 = cc in let no : ⊥ = omega arith in absurd no
 cond-sound false r v e = (refl, e)
 
-pub header-passed : (stage count at : ℕ) (left : List ℕ) → header stage count at left ≡ Sound → Passed stage count left
+pub header-passed : (stage count at : ℕ) (left : List ℕ) → header stage count at left ≡ Ok tt → Passed stage count left
 unfolding header
 header-passed stage count at left e =
     let a = cond-sound (ltb (length left) 3) (WrongEnd at) _ e in
@@ -52,19 +51,19 @@ header-passed stage count at left e =
       body = ltb-false (length left) (3 + length_of left) f.0;
     }
 
-pub passed-header : (stage count at : ℕ) (left : List ℕ) → Passed stage count left → header stage count at left ≡ Sound
+pub passed-header : (stage count at : ℕ) (left : List ℕ) → Passed stage count left → header stage count at left ≡ Ok tt
 unfolding header
 passed-header stage count at left 𝓟 =
     rw (le-ltb (length left) 3 𝓟.whole, 𝓟.fine, 𝓟.few, 𝓟.ever, le-ltb (length left) (3 + length_of left) 𝓟.body)
 
 -- ---- one field, and then the others
 module _ (n stage : ℕ) (p : Plan) (at : ℕ) (left : List ℕ) where
-  pub read-refused : {r : Refusal} → header stage p.count at left ≡ Refused r → read_from (suc n) stage p at left ≡ refused r
+  pub read-refused : {r : Refusal} → header stage p.count at left ≡ Err r → read_from (suc n) stage p at left ≡ Err r
   unfolding read_from verdict_at
   read-refused e = rw e
 
-  module _ (e : header stage p.count at left ≡ Sound) where
-    pub read-broken : kept (tag_of left) (body_of left) (entered (tag_of left) (body_of left) p) ≡ false → read_from (suc n) stage p at left ≡ refused (RuleBroken at)
+  module _ (e : header stage p.count at left ≡ (Ok tt)) where
+    pub read-broken : kept (tag_of left) (body_of left) (entered (tag_of left) (body_of left) p) ≡ false → read_from (suc n) stage p at left ≡ Err (RuleBroken at)
     unfolding read_from verdict_at
     read-broken k = rw (e, k)
 
@@ -193,7 +192,7 @@ subscriber-next count left 𝓟 other =
     }
 
 -- ---- a field at a place of the file, whose tag and length are known
-module _ (n stage : ℕ) (p : Plan) (at : ℕ) (bs : List ℕ) (e : header stage p.count at (drop at bs) ≡ Sound)
+module _ (n stage : ℕ) (p : Plan) (at : ℕ) (bs : List ℕ) (e : header stage p.count at (drop at bs) ≡ Ok tt)
     {tag m : ℕ} (t : tag_of (drop at bs) ≡ tag) (l : length_of (drop at bs) ≡ m) where
   pub at_room : at + (3 + m) ≤ length bs
   at_room = let fits = rw (l, length-drop at bs) at (header-passed stage p.count at (drop at bs) e).body in omega arith
@@ -207,7 +206,7 @@ module _ (n stage : ℕ) (p : Plan) (at : ℕ) (bs : List ℕ) (e : header stage
   after-at = rw (l, drop-drop (3 + m) at bs)
 
   pub at-broken : kept tag (take m (drop (at + 3) bs)) (entered tag (take m (drop (at + 3) bs)) p) ≡ false
-      → read_from (suc n) stage p at (drop at bs) ≡ refused (RuleBroken at)
+      → read_from (suc n) stage p at (drop at bs) ≡ Err (RuleBroken at)
   at-broken k = read-broken n stage p at (drop at bs) e (rw (t, body_at) k)
 
   module _ (k : kept tag (take m (drop (at + 3) bs)) (entered tag (take m (drop (at + 3) bs)) p) ≡ true) where

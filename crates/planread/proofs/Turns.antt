@@ -1,4 +1,5 @@
 -- Reading, field by field as the code goes: the four fixed fields, and a turn of the loop over the subscribers. Assumes nothing.
+use Rattle.std.specs.Prelude.{Ok, Err}
 use mathlib.Core.Path.{◌≡◌, refl, sym, ap, ◌∙◌}
 use mathlib.Core.Bool.{true, false}
 use mathlib.Core.List.{List, []}
@@ -12,18 +13,17 @@ use Rattle.refusal.specs.declared.Refusal.TheVariants.{RuleBroken}
 use Rattle.plan.specs.declared.Types.{Types}
 use Rattle.plan.specs.declared.Subscriber.{Subscriber}
 use Rattle.plan.specs.declared.Plan.{Plan}
-use Rattle.plan.specs.declared.Verdict.TheVariants.{Sound, Refused}
 use Rattle.plan.specs.Rules.{boxes_blank}
 use Rattle.plan.specs.Sound.{types_sound, source_sound, target_sound, subscriber_sound}
 use Rattle.planbytes.specs.Numbers.{number}
-use Rattle.planread.specs.Reading.{no_types, plan_of, blank_plan, tag_of, length_of, types_in, order_in, boxes_in, subscriber_with, subscriber_in, entered, kept, header, refused, ended, read_from, read_of}
+use Rattle.planread.specs.Reading.{no_types, plan_of, blank_plan, tag_of, length_of, types_in, order_in, boxes_in, subscriber_with, subscriber_in, entered, kept, header, ended, read_from, read_of}
 use Rattle.plan.specs.Parts.{no_subscriber}
 use Rattle.planbytes.proofs.Numbers.{one_at}
 use Rattle.planread.proofs.Fields.{tag_at, length_at}
 use Rattle.planread.proofs.Steps.{Passed, Next, header-passed, read-refused, types-part, order-part, subscriber-part, boxes-blank, version-next, types-next, source-next, target-next, end-next, subscriber-next, at_room, at-broken, at-end, at_on}
 
 -- ---- tag 1
-module _ (bs : List ℕ) (e : header 0 0 0 bs ≡ Sound) where
+module _ (bs : List ℕ) (e : header 0 0 0 bs ≡ (Ok tt)) where
   version-is : (tag_of bs ≡ 1) × (length_of bs ≡ 1)
   version-is = version-next 0 bs (header-passed 0 0 0 bs e)
 
@@ -34,7 +34,7 @@ module _ (bs : List ℕ) (e : header 0 0 0 bs ≡ Sound) where
   unfolding kept
   version-kept p = let inside : 3 < length bs = version-room in rw (one_at bs 3 inside)
 
-  pub version-broken : eqb (get_or bs 3 0) 1 ≡ false → read_of bs ≡ refused (RuleBroken 0)
+  pub version-broken : eqb (get_or bs 3 0) 1 ≡ false → read_of bs ≡ Err (RuleBroken 0)
   unfolding read_of blank_plan
   version-broken k = at-broken 260 0 blank_plan 0 bs e version-is.0 version-is.1 (version-kept (entered 1 (take 1 (drop 3 bs)) blank_plan) ∙ k)
 
@@ -42,12 +42,12 @@ module _ (bs : List ℕ) (e : header 0 0 0 bs ≡ Sound) where
   unfolding read_of entered blank_plan
   version-on k = at_on 260 0 blank_plan 0 bs e version-is.0 version-is.1 (version-kept (entered 1 (take 1 (drop 3 bs)) blank_plan) ∙ k) (eqb-false 1 127 refl)
 
-pub version-refused : (bs : List ℕ) {r : Refusal} → header 0 0 0 bs ≡ Refused r → read_of bs ≡ refused r
+pub version-refused : (bs : List ℕ) {r : Refusal} → header 0 0 0 bs ≡ Err r → read_of bs ≡ Err r
 unfolding read_of blank_plan
 version-refused bs e = read-refused 260 0 blank_plan 0 bs e
 
 -- ---- tag 2
-module _ (bs : List ℕ) (e : header 1 0 4 (drop 4 bs) ≡ Sound) where
+module _ (bs : List ℕ) (e : header 1 0 4 (drop 4 bs) ≡ (Ok tt)) where
   types-is : (tag_of (drop 4 bs) ≡ 2) × (length_of (drop 4 bs) ≡ 20)
   types-is = types-next 0 (drop 4 bs) (header-passed 1 0 4 (drop 4 bs) e)
 
@@ -59,7 +59,7 @@ module _ (bs : List ℕ) (e : header 1 0 4 (drop 4 bs) ≡ Sound) where
     unfolding kept entered
     types-kept p = ap types_sound (types-part (drop 7 bs) ∙ sym q)
 
-    pub types-broken : types_sound t ≡ false → read_from 260 1 blank_plan 4 (drop 4 bs) ≡ refused (RuleBroken 4)
+    pub types-broken : types_sound t ≡ false → read_from 260 1 blank_plan 4 (drop 4 bs) ≡ Err (RuleBroken 4)
     unfolding blank_plan
     types-broken k = at-broken 259 1 blank_plan 4 bs e types-is.0 types-is.1 (types-kept blank_plan ∙ k)
 
@@ -70,12 +70,12 @@ module _ (bs : List ℕ) (e : header 1 0 4 (drop 4 bs) ≡ Sound) where
         at_on 259 1 blank_plan 4 bs e types-is.0 types-is.1 (types-kept blank_plan ∙ k) (eqb-false 2 127 refl)
         ∙ ap (λ (x : Types). read_from 259 2 (plan_of x (replicate 32 0) (replicate 32 0) (replicate 256 no_subscriber) 0) 27 (drop 27 bs)) (types-part (drop 7 bs) ∙ sym q)
 
-pub types-refused : (bs : List ℕ) {r : Refusal} → header 1 0 4 (drop 4 bs) ≡ Refused r → read_from 260 1 blank_plan 4 (drop 4 bs) ≡ refused r
+pub types-refused : (bs : List ℕ) {r : Refusal} → header 1 0 4 (drop 4 bs) ≡ Err r → read_from 260 1 blank_plan 4 (drop 4 bs) ≡ Err r
 unfolding blank_plan
 types-refused bs e = read-refused 259 1 blank_plan 4 (drop 4 bs) e
 
 -- ---- tag 3
-module _ (bs : List ℕ) (e : header 2 0 27 (drop 27 bs) ≡ Sound) where
+module _ (bs : List ℕ) (e : header 2 0 27 (drop 27 bs) ≡ (Ok tt)) where
   source_is : (tag_of (drop 27 bs) ≡ 3) × (length_of (drop 27 bs) ≡ 128)
   source_is = source-next 0 (drop 27 bs) (header-passed 2 0 27 (drop 27 bs) e)
 
@@ -87,7 +87,7 @@ module _ (bs : List ℕ) (e : header 2 0 27 (drop 27 bs) ≡ Sound) where
     unfolding kept entered
     source-kept old = ap (source_sound t) (order-part (drop 30 bs) ∙ sym q)
 
-    pub source-broken : (old : List ℕ) → source_sound t source ≡ false → read_from 259 2 (plan_of t old target subs 0) 27 (drop 27 bs) ≡ refused (RuleBroken 27)
+    pub source-broken : (old : List ℕ) → source_sound t source ≡ false → read_from 259 2 (plan_of t old target subs 0) 27 (drop 27 bs) ≡ Err (RuleBroken 27)
     source-broken old k = at-broken 258 2 (plan_of t old target subs 0) 27 bs e source_is.0 source_is.1 (source-kept old ∙ k)
 
     pub source-on : (old : List ℕ) → source_sound t source ≡ true
@@ -98,7 +98,7 @@ module _ (bs : List ℕ) (e : header 2 0 27 (drop 27 bs) ≡ Sound) where
         ∙ ap (λ (x : List ℕ). read_from 258 3 (plan_of t x target subs 0) 158 (drop 158 bs)) (order-part (drop 30 bs) ∙ sym q)
 
 -- ---- tag 4
-module _ (bs : List ℕ) (e : header 3 0 158 (drop 158 bs) ≡ Sound) where
+module _ (bs : List ℕ) (e : header 3 0 158 (drop 158 bs) ≡ (Ok tt)) where
   target_is : (tag_of (drop 158 bs) ≡ 4) × (length_of (drop 158 bs) ≡ 128)
   target_is = target-next 0 (drop 158 bs) (header-passed 3 0 158 (drop 158 bs) e)
 
@@ -110,7 +110,7 @@ module _ (bs : List ℕ) (e : header 3 0 158 (drop 158 bs) ≡ Sound) where
     unfolding kept entered
     target-kept old = ap (target_sound t source) (order-part (drop 161 bs) ∙ sym q)
 
-    pub target-broken : (old : List ℕ) → target_sound t source target ≡ false → read_from 258 3 (plan_of t source old subs 0) 158 (drop 158 bs) ≡ refused (RuleBroken 158)
+    pub target-broken : (old : List ℕ) → target_sound t source target ≡ false → read_from 258 3 (plan_of t source old subs 0) 158 (drop 158 bs) ≡ Err (RuleBroken 158)
     target-broken old k = at-broken 257 3 (plan_of t source old subs 0) 158 bs e target_is.0 target_is.1 (target-kept old ∙ k)
 
     pub target-on : (old : List ℕ) → target_sound t source target ≡ true
@@ -125,10 +125,10 @@ module _ (t : Types) (source target : List ℕ) (subs : List Subscriber) (count 
   fuel : 257 - count ≡ suc (256 - count)
   fuel = omega arith
 
-  pub turn-refused : {r : Refusal} → header 4 count at (drop at bs) ≡ Refused r → read_from (257 - count) 4 (plan_of t source target subs count) at (drop at bs) ≡ refused r
+  pub turn-refused : {r : Refusal} → header 4 count at (drop at bs) ≡ Err r → read_from (257 - count) 4 (plan_of t source target subs count) at (drop at bs) ≡ Err r
   turn-refused e = rw fuel (read-refused (256 - count) 4 (plan_of t source target subs count) at (drop at bs) e)
 
-  module _ (e : header 4 count at (drop at bs) ≡ Sound) where
+  module _ (e : header 4 count at (drop at bs) ≡ (Ok tt)) where
     passed : Passed 4 count (drop at bs)
     passed = header-passed 4 count at (drop at bs) e
 
@@ -178,7 +178,7 @@ module _ (t : Types) (source target : List ℕ) (subs : List Subscriber) (count 
         unfolding kept entered
         subscriber-kept = let back : count + 1 - 1 ≡ count = omega arith in rw (subscriber-is, back)
 
-        pub turn-broken : subscriber_sound t (set subs count s) count ≡ false → read_from (257 - count) 4 (plan_of t source target subs count) at (drop at bs) ≡ refused (RuleBroken at)
+        pub turn-broken : subscriber_sound t (set subs count s) count ≡ false → read_from (257 - count) 4 (plan_of t source target subs count) at (drop at bs) ≡ Err (RuleBroken at)
         turn-broken k = rw fuel (at-broken (256 - count) 4 (plan_of t source target subs count) at bs e next.tag long (subscriber-kept ∙ k))
 
         pub turn_on : subscriber_sound t (set subs count s) count ≡ true

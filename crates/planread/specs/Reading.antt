@@ -1,15 +1,13 @@
 -- What reading a plan file answers, field by field (document 01, 'File'). `left` is what is left of the file, from the field's first byte on. Assumes nothing.
-use Rattle.std.specs.Prelude.{ℕ, zero, suc, ◌+◌, ◌-◌, ◌/◌, ◌%◌, min, Bool, true, false, not, ◌&&◌, ◌||◌, cond, List, ◌++◌, eqb, ltb, leb, length, take, drop, set, replicate}
+use Rattle.std.specs.Prelude.{ℕ, zero, suc, ◌+◌, ◌-◌, ◌/◌, ◌%◌, min, Bool, true, not, ◌&&◌, ◌||◌, cond, List, ◌++◌, eqb, ltb, leb, length, take, drop, set, replicate, Result, Ok, Err, ⊤}
 use Rattle.refusal.specs.declared.Refusal.{Refusal}
 use Rattle.refusal.specs.declared.Refusal.TheVariants.{WrongEnd, WrongTag, WrongLength, RuleBroken, TooManySubscribers}
 use Rattle.plan.specs.declared.Types.{Types}
 use Rattle.plan.specs.declared.Subscriber.{Subscriber}
 use Rattle.plan.specs.declared.Plan.{Plan}
-use Rattle.plan.specs.declared.Verdict.{Verdict}
-use Rattle.plan.specs.declared.Verdict.TheVariants.{Sound, Refused}
 use Rattle.plan.specs.Parts.{no_subscriber}
 use Rattle.plan.specs.Sound.{types_sound, source_sound, target_sound, subscriber_sound}
-use Rattle.planread.specs.declared.Reading.{Reading}
+use Rattle.refusal.specs.Numbers.{◌>>=◌, unless}
 use Rattle.planbytes.specs.Numbers.{number, numbers}
 
 -- ---- blanks: all zero
@@ -109,51 +107,37 @@ kept tag body p =
 
 -- F7: at a field at this place, in this order: fewer than 3 bytes left 20; tag not allowed here 21; 257th subscriber 24; a length the tag never has 22;
 -- body cut short 20
-unfoldable pub header : ℕ → ℕ → ℕ → List ℕ → Verdict
+unfoldable pub header : ℕ → ℕ → ℕ → List ℕ → Result ⊤ Refusal
 header stage count at left =
-    cond (ltb (length left) 3) (Refused (WrongEnd at))
-    (cond (not (allowed stage (tag_of left))) (Refused (WrongTag at))
-    (cond (eqb (tag_of left) 5 && leb 256 count) (Refused (TooManySubscribers at))
-    (cond (not (ever_long (tag_of left) (length_of left))) (Refused (WrongLength at))
-    (cond (ltb (length left) (3 + length_of left)) (Refused (WrongEnd at))
-    Sound))))
+    cond (ltb (length left) 3) (Err (WrongEnd at))
+    (cond (not (allowed stage (tag_of left))) (Err (WrongTag at))
+    (cond (eqb (tag_of left) 5 && leb 256 count) (Err (TooManySubscribers at))
+    (cond (not (ever_long (tag_of left) (length_of left))) (Err (WrongLength at))
+    (cond (ltb (length left) (3 + length_of left)) (Err (WrongEnd at))
+    (Ok tt)))))
 
 -- a rule broken with the earlier fields 23
-abbrev pub then_rule : Verdict → ℕ → Bool → Verdict
-then_rule (Refused r) at b = Refused r
-then_rule Sound at true = Sound
-then_rule Sound at false = Refused (RuleBroken at)
+abbrev pub then_rule : Result ⊤ Refusal → ℕ → Bool → Result ⊤ Refusal
+then_rule v at b = v >>= λ ok. unless b (RuleBroken at) (Ok tt)
 
-unfoldable pub verdict_at : ℕ → Plan → ℕ → List ℕ → Verdict
+unfoldable pub verdict_at : ℕ → Plan → ℕ → List ℕ → Result ⊤ Refusal
 verdict_at stage p at left =
     then_rule (header stage p.count at left) at (kept (tag_of left) (body_of left) (entered (tag_of left) (body_of left) p))
 
 -- ---- the file
 
--- beside a refusal stands the blank plan
-abbrev pub refused : Refusal → Reading
-refused r = record { answer = Refused r; plan = blank_plan }
-
-abbrev pub accepted : Plan → Reading
-accepted p = record { answer = Sound; plan = p }
-
--- a field that is refused ends the reading
-abbrev pub go_on : Verdict → Reading → Reading
-go_on (Refused r) next = refused r
-go_on Sound next = next
-
 -- F12: bytes after the end field: 20, at the first
-unfoldable pub ended : Plan → ℕ → List ℕ → Reading
-ended p at left = cond (eqb (length left) 0) (accepted p) (refused (WrongEnd at))
+unfoldable pub ended : {A : Type 0} → A → ℕ → List ℕ → Result A Refusal
+ended x at left = cond (eqb (length left) 0) (Ok x) (Err (WrongEnd at))
 
--- the fields from a place on, n of them at most
-unfoldable pub read_from : ℕ → ℕ → Plan → ℕ → List ℕ → Reading
-read_from zero stage p at left = refused (TooManySubscribers at)
+-- the fields from a place on, n of them at most; a field that is refused ends the reading
+unfoldable pub read_from : ℕ → ℕ → Plan → ℕ → List ℕ → Result Plan Refusal
+read_from zero stage p at left = Err (TooManySubscribers at)
 read_from (suc n) stage p at left =
-    go_on (verdict_at stage p at left)
+    verdict_at stage p at left >>= λ ok.
     (cond (eqb (tag_of left) 127) (ended p (at + 3) (after left))
     (read_from n (min (stage + 1) 4) (entered (tag_of left) (body_of left) p) (at + (3 + length_of left)) (after left)))
 
 -- a file has 4 fields, 256 subscribers at most, and the end
-unfoldable pub read_of : List ℕ → Reading
+unfoldable pub read_of : List ℕ → Result Plan Refusal
 read_of bytes = read_from 261 0 blank_plan 0 bytes

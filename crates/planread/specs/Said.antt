@@ -1,8 +1,6 @@
 -- What reading answers in document 01's numbers: 0 for a plan, else the number of the refusal; and the refusal's place. The second clause of `read` says it, so that a
 -- renumbered table of refusals would break it. Assumes nothing.
-use Rattle.std.specs.Prelude.{ℕ, zero, suc, ◌+◌, min, Bool, not, ◌&&◌, ◌||◌, cond, List, eqb, ltb, leb, length}
-use Rattle.refusal.specs.declared.Place.{Place}
-use Rattle.refusal.specs.declared.Place.TheVariants.{Nowhere, At}
+use Rattle.std.specs.Prelude.{ℕ, zero, suc, ◌+◌, min, Bool, not, ◌&&◌, ◌||◌, cond, List, eqb, ltb, leb, length, Option, Some, None}
 use Rattle.plan.specs.declared.Plan.{Plan}
 use Rattle.planread.specs.Reading.{tag_of, length_of, body_of, after, allowed, ever_long, entered, kept, blank_plan}
 
@@ -27,15 +25,15 @@ faulty stage p left =
     || ltb (length left) (3 + length_of left) || not (kept (tag_of left) (body_of left) (entered (tag_of left) (body_of left) p))
 
 -- the place is the field's first byte, counted from 0. Bytes after the end field: at the first
-unfoldable pub place_from : ℕ → ℕ → Plan → ℕ → List ℕ → Place
-place_from zero stage p at left = At at
+unfoldable pub place_from : ℕ → ℕ → Plan → ℕ → List ℕ → Option ℕ
+place_from zero stage p at left = Some at
 place_from (suc n) stage p at left =
-    cond (faulty stage p left) (At at)
-    (cond (eqb (tag_of left) 127) (cond (eqb (length (after left)) 0) Nowhere (At (at + 3)))
+    cond (faulty stage p left) (Some at)
+    (cond (eqb (tag_of left) 127) (cond (eqb (length (after left)) 0) None (Some (at + 3)))
     (place_from n (min (stage + 1) 4) (entered (tag_of left) (body_of left) p) (at + (3 + length_of left)) (after left)))
 
 unfoldable pub number_read : List ℕ → ℕ
 number_read bytes = number_from 261 0 blank_plan bytes
 
-unfoldable pub place_read : List ℕ → Place
+unfoldable pub place_read : List ℕ → Option ℕ
 place_read bytes = place_from 261 0 blank_plan 0 bytes

@@ -1,43 +1,39 @@
 -- What the plan of a file shows of two addresses, and the parts of the code that find it. Assumes nothing.
-use Rattle.std.specs.Prelude.{ℕ, cond, List, eqb, length, drop, replicate}
+use Rattle.std.specs.Prelude.{ℕ, List, drop, replicate, Result, Ok, Err, ⊤}
 use Rattle.refusal.specs.declared.Refusal.{Refusal}
-use Rattle.refusal.specs.declared.Refusal.TheVariants.{WrongEnd}
+use Rattle.refusal.specs.Numbers.{◌>>=◌}
 use Rattle.plan.specs.declared.Types.{Types}
 use Rattle.plan.specs.declared.Subscriber.{Subscriber}
-use Rattle.plan.specs.declared.Verdict.{Verdict}
-use Rattle.plan.specs.declared.Verdict.TheVariants.{Sound, Refused}
+use Rattle.plan.specs.declared.Plan.{Plan}
+use Rattle.plan.specs.declared.Seen.{Seen}
 use Rattle.plan.specs.Parts.{no_subscriber}
 use Rattle.plan.specs.Find.{seen}
-use Rattle.planread.specs.declared.Reading.{Reading}
-use Rattle.planread.specs.declared.Sight.{Sight}
-use Rattle.planread.specs.Reading.{no_types, plan_of, refused, read_from}
+use Rattle.planread.specs.declared.Head.{Head}
+use Rattle.planread.specs.Reading.{plan_of, ended, read_from}
 
--- the answer of a reading, and what its plan shows of two addresses; beside a refusal that is the blank plan
-unfoldable pub scanned : ℕ → ℕ → Reading → Sight
-scanned first second r = record { answer = r.answer; seen = seen r.plan first second }
+-- what the plan that was read shows of two addresses; or the refusal of reading
+unfoldable pub scanned : ℕ → ℕ → Result Plan Refusal → Result Seen Refusal
+scanned first second r = r >>= λ p. Ok (seen p first second)
+
+-- a reading without its plan
+abbrev pub judged : Result Plan Refusal → Result ⊤ Refusal
+judged (Ok p) = Ok tt
+judged (Err r) = Err r
 
 -- ---- parts of the code
 
--- what stands beside a refusal: all zero
-unfoldable pub unseen : Refusal → Sight
-unseen r =
-    record {
-      answer = Refused r;
-      seen = record { types = no_types; source_order = replicate 32 0; target_order = replicate 32 0; first = no_subscriber; second = no_subscriber };
-    }
+-- the five sets, the orders and two subscribers
+abbrev pub sight : Types → List ℕ → List ℕ → Subscriber → Subscriber → Seen
+sight t source target one other = record { types = t; source_order = source; target_order = target; first = one; second = other }
 
 -- what looking through the subscribers answers, with the five sets and the orders beside it
-abbrev pub sighted : Verdict → Types → List ℕ → List ℕ → Subscriber → Subscriber → Sight
-sighted (Refused r) t source target one other = unseen r
-sighted Sound t source target one other =
-    record { answer = Sound; seen = record { types = t; source_order = source; target_order = target; first = one; second = other } }
+abbrev pub sighted : Result (Subscriber × Subscriber) Refusal → Types → List ℕ → List ℕ → Result Seen Refusal
+sighted r t source target = r >>= λ two. Ok (sight t source target two.0 two.1)
 
 -- after the end field: what is shown, or bytes too many
-unfoldable pub shown_end : Types → List ℕ → List ℕ → Subscriber → Subscriber → ℕ → List ℕ → Sight
-shown_end t source target first second at left =
-    cond (eqb (length left) 0) (sighted Sound t source target first second) (unseen (WrongEnd at))
+unfoldable pub shown_end : Types → List ℕ → List ℕ → Subscriber → Subscriber → ℕ → List ℕ → Result Seen Refusal
+shown_end t source target first second at left = ended (sight t source target first second) at left
 
--- reading on after the four fixed fields, by what they gave
-abbrev pub onward : Verdict → Types → List ℕ → List ℕ → List ℕ → Reading
-onward (Refused r) t source target bytes = refused r
-onward Sound t source target bytes = read_from 257 4 (plan_of t source target (replicate 256 no_subscriber) 0) 289 (drop 289 bytes)
+-- reading on after the four fixed fields, by what they say
+abbrev pub onward : Result Head Refusal → List ℕ → Result Plan Refusal
+onward h bytes = h >>= λ f. read_from 257 4 (plan_of f.types f.source f.target (replicate 256 no_subscriber) 0) 289 (drop 289 bytes)

@@ -1,66 +1,37 @@
 // Any bytes read as a plan file: the plan, or the refusal of the first field at which they stop being one.
 #![tactic(auto)]
 
-ghost use Rattle.std.specs.Prelude.{◌≡◌, true, ◌&&◌, cond, List, ◌++◌, ℕ, ◌+◌, ◌*◌, ◌-◌, ◌%◌, ◌≤◌, ◌<◌, leb, ltb, eqb, length, take, drop, replicate};
+ghost use Rattle.std.specs.Prelude.{◌≡◌, true, ◌&&◌, cond, List, ◌++◌, ℕ, ◌+◌, ◌*◌, ◌-◌, ◌%◌, ◌≤◌, ◌<◌, leb, ltb, eqb, length, take, drop, replicate, is_ok};
 ghost use Rattle.plan.specs.Rules.{boxes_blank};
-ghost use Rattle.plan.specs.Sound.{own_sound, number_said, place_said};
+ghost use Rattle.refusal.specs.Numbers.{number_said, place_said};
+ghost use Rattle.plan.specs.Sound.{own_sound};
 ghost use Rattle.plan.specs.Table.{fits};
 ghost use Rattle.planbytes.specs.Numbers.{number, numbers};
-ghost use Rattle.planread.specs.Reading.{no_types, plan_of, blank_plan, types_in, order_in, subscriber_with, allowed, ever_long, header, refused, ended, read_from, read_of};
+ghost use Rattle.planread.specs.Reading.{plan_of, blank_plan, types_in, order_in, subscriber_with, allowed, ever_long, header, ended, read_from, read_of};
 ghost use Rattle.plan.specs.Parts.{no_subscriber};
 ghost use Rattle.planread.specs.Said.{number_read, place_read};
-ghost use Rattle.planread.specs.Scanning.{onward, scanned, unseen, shown_end, sighted};
+ghost use Rattle.planread.specs.Scanning.{onward, scanned, judged, sighted};
 ghost use Rattle.plan.specs.declared.Types.{Types};
-ghost use Rattle.plan.specs.declared.Verdict.TheVariants.{Sound, Refused};
 
-use plan::{Plan, Seen, Subscriber, Types, Verdict};
+use plan::{Plan, Seen, Subscriber, Types};
 use refusal::Refusal;
 
-// What reading answers: sound, with the plan, or a refusal, with a blank one beside it.
-#[derive(Clone, Copy)]
-pub struct Reading {
-    pub answer: Verdict,
-    pub plan: Plan,
-}
-
-// What looking through a file answers: what the plan shows of two addresses; or a refusal, with what a blank plan shows beside it.
-#[derive(Clone, Copy)]
-pub struct Sight {
-    pub answer: Verdict,
-    pub seen: Seen,
-}
-
-// What looking through the fields after the fixed ones answers: sound, with the subscribers of two addresses; or the refusal of one of them.
-#[derive(Clone, Copy)]
-struct Pass {
-    answer: Verdict,
-    one: Subscriber,
-    other: Subscriber,
-}
-
-// The four fixed fields: sound, with what they say, or the refusal of one of them.
+// What the four fixed fields say.
 #[derive(Clone, Copy)]
 struct Head {
-    answer: Verdict,
     types: Types,
     source: [u32; 32],
     target: [u32; 32],
 }
 
-// ---- numbers, high byte first
-
-fn wide(b: u8) -> u32
-    ensures { (result ≡ b) × (result < 256) }
-{
-    b as u32
-}
+// ---- numbers, high byte first. Bytes and place go together: a refusal names the place in the whole file.
 
 // The number of two bytes at a place.
 fn two(bytes: &[u8], at: usize) -> u16
     requires { at + 2 ≤ length bytes.now }
     ensures { result ≡ number (take 2 (drop at bytes.now)) }
 {
-    (wide(bytes[at]) * 256 + wide(bytes[at + 1])) as u16
+    u16::from_be_bytes([bytes[at], bytes[at + 1]])
 }
 
 // The number of four bytes at a place.
@@ -68,8 +39,7 @@ fn four(bytes: &[u8], at: usize) -> u32
     requires { at + 4 ≤ length bytes.now }
     ensures { result ≡ number (take 4 (drop at bytes.now)) }
 {
-    ((wide(bytes[at]) * 256 + wide(bytes[at + 1])) * 256 + wide(bytes[at + 2])) * 256
-        + wide(bytes[at + 3])
+    u32::from_be_bytes([bytes[at], bytes[at + 1], bytes[at + 2], bytes[at + 3]])
 }
 
 // ---- what the body of a field says, from the place where it begins
@@ -88,7 +58,7 @@ fn types_at(bytes: &[u8], at: usize) -> Types
     }
 }
 
-// The 32 rows of an order.
+// The 32 rows of an order. (By `from_fn` it was tried, and its proof didn't close.)
 fn order_at(bytes: &[u8], at: usize) -> [u32; 32]
     requires { at + 128 ≤ length bytes.now }
     ensures { result ≡ order_in (drop at bytes.now) }
@@ -138,156 +108,90 @@ fn subscriber_at(bytes: &[u8], at: usize, count: usize) -> Subscriber
 
 // ---- the tests at a field
 
-// Whether a tag is allowed after this many of the four fixed fields.
+// Whether a tag is allowed after this many of the four fixed fields. Tags stay numbers: any byte may stand there, and 21 says so.
+#[tactic(auto, unfolding(crate::specs::Reading::allowed))]
 fn allowed(stage: u8, tag: u8) -> bool
     requires { stage ≤ 4 }
     ensures { result ≡ allowed stage tag }
 {
     if stage < 4 {
-        return tag == stage + 1;
+        tag == stage + 1
+    } else {
+        tag == 5 || tag == 127
     }
-    if tag == 5 {
-        return true;
-    }
-    tag == 127
 }
 
 // Whether a subscriber's field ever has this length.
 fn subscriber_long(n: u16) -> bool
     ensures { result ≡ (leb 13 n && leb n 21 && eqb (n % 2) 1) }
 {
-    if n < 13 {
-        return false;
-    }
-    if 21 < n {
-        return false;
-    }
-    n % 2 == 1
+    13 <= n && n <= 21 && n % 2 == 1
 }
 
 // Whether a field with this tag ever has this length.
+#[tactic(auto, unfolding(crate::specs::Reading::ever_long))]
 fn ever_long(tag: u8, n: u16) -> bool
     ensures { result ≡ ever_long tag n }
 {
-    if tag == 1 {
-        return n == 1;
+    match tag {
+        1 => n == 1,
+        2 => n == 20,
+        3 | 4 => n == 128,
+        5 => subscriber_long(n),
+        _ => n == 0,
     }
-    if tag == 2 {
-        return n == 20;
-    }
-    if tag == 3 {
-        return n == 128;
-    }
-    if tag == 4 {
-        return n == 128;
-    }
-    if tag == 5 {
-        return subscriber_long(n);
-    }
-    n == 0
 }
 
 // Whether a field with this tag, after so many subscribers, is one subscriber too many.
 fn too_many(tag: u8, count: usize) -> bool
     ensures { result ≡ (eqb tag 5 && leb 256 count) }
 {
-    if tag == 5 { 256 <= count } else { false }
+    tag == 5 && 256 <= count
 }
 
 // The tests at a field that come before its rules.
-fn header(bytes: &[u8], stage: u8, count: usize, at: usize) -> Verdict
+fn header(bytes: &[u8], stage: u8, count: usize, at: usize) -> Result<(), Refusal>
     requires { (stage ≤ 4) × (at ≤ length bytes.now) }
     ensures { result ≡ header stage count at (drop at bytes.now) }
 {
     let left = bytes.len() - at;
     if left < 3 {
-        return Verdict::Refused(Refusal::WrongEnd(at));
+        return Err(Refusal::WrongEnd(at));
     }
     let tag = bytes[at];
     if !allowed(stage, tag) {
-        return Verdict::Refused(Refusal::WrongTag(at));
+        return Err(Refusal::WrongTag(at));
     }
     if too_many(tag, count) {
-        return Verdict::Refused(Refusal::TooManySubscribers(at));
+        return Err(Refusal::TooManySubscribers(at));
     }
     let n = two(bytes, at + 1);
     if !ever_long(tag, n) {
-        return Verdict::Refused(Refusal::WrongLength(at));
+        return Err(Refusal::WrongLength(at));
     }
-    if left < 3 + n as usize {
-        return Verdict::Refused(Refusal::WrongEnd(at));
+    if left < 3 + usize::from(n) {
+        return Err(Refusal::WrongEnd(at));
     }
-    Verdict::Sound
+    Ok(())
 }
 
 // ---- the file
 
-// What stands beside a refusal: a plan in which all is zero.
-fn blank_plan() -> Plan
-    ensures { result ≡ blank_plan }
-{
-    let empty = plan::no_subscriber();
-    Plan {
-        types: Types {
-            existing: 0,
-            bound: 0,
-            reversible: 0,
-            source_choice: 0,
-            target_choice: 0,
-        },
-        source_order: [0u32; 32],
-        target_order: [0u32; 32],
-        subscribers: [empty; 256],
-        count: 0,
-    }
-}
-
-fn refused(r: Refusal) -> Reading
-    ensures { result ≡ refused r }
-{
-    let plan = blank_plan();
-    Reading {
-        answer: Verdict::Refused(r),
-        plan,
-    }
-}
-
-// What comes after the end field: nothing, or bytes too many.
-fn finish(
-    bytes: &[u8],
-    at: usize,
-    types: Types,
-    source: [u32; 32],
-    target: [u32; 32],
-    subscribers: [Subscriber; 256],
-    count: usize,
-) -> Reading
-    requires { count ≤ 256 }
-    ensures { result ≡ ended (plan_of types source target subscribers count) at (drop at bytes.now) }
+// What comes after the end field: nothing, and then the value is answered, or bytes too many.
+fn finish<T: Copy>(bytes: &[u8], at: usize, value: T) -> Result<T, Refusal>
+    ensures { result ≡ ended value at (drop at bytes.now) }
 {
     if at < bytes.len() {
-        return refused(Refusal::WrongEnd(at));
+        return Err(Refusal::WrongEnd(at));
     }
-    Reading {
-        answer: Verdict::Sound,
-        plan: Plan {
-            types,
-            source_order: source,
-            target_order: target,
-            subscribers,
-            count: count as u16,
-        },
-    }
+    Ok(value)
 }
 
 // Whether a subscriber keeps its rules beside those before it: an address above the last one's, and box numbers that it may have.
 fn beside(s: Subscriber, last: u32, taken: &[u32; 4096]) -> bool
     ensures { result ≡ (ltb last s.address && fits taken.now s) }
 {
-    if s.address <= last {
-        return false;
-    }
-    soundness::fits(taken, s)
+    last < s.address && soundness::fits(taken, s)
 }
 
 // Whether a subscriber keeps its own rules, its number of boxes among them, and those beside the ones before it. The zeros past its numbers are the reader's own, and are not
@@ -296,42 +200,37 @@ fn keeps(types: Types, s: Subscriber, last: u32, taken: &[u32; 4096]) -> bool
     requires { boxes_blank s ≡ true }
     ensures { result ≡ (own_sound types s && ltb last s.address && fits taken.now s) }
 {
-    if rules::listed_sound(types, s) {
-        beside(s, last, taken)
-    } else {
-        false
-    }
+    rules::listed_sound(types, s) && beside(s, last, taken)
 }
 
 // The fields after the four fixed ones: a subscriber at each turn, until the end field. Nobody has a box number to begin with.
-fn read_subscribers(
-    bytes: &[u8],
-    types: Types,
-    source: [u32; 32],
-    target: [u32; 32],
-    taken: &mut [u32; 4096],
-) -> Reading
+fn read_subscribers(bytes: &[u8], head: Head, taken: &mut [u32; 4096]) -> Result<Plan, Refusal>
     requires { (289 ≤ length bytes.now) × (taken.old ≡ replicate 4096 0) }
-    ensures { result ≡ read_from 257 4 (plan_of types source target (replicate 256 no_subscriber) 0) 289 (drop 289 bytes.now) }
+    ensures { result ≡ read_from 257 4 (plan_of head.types head.source head.target (replicate 256 no_subscriber) 0) 289 (drop 289 bytes.now) }
 {
+    let source = head.source;
+    let target = head.target;
     let empty = plan::no_subscriber();
     let mut subscribers = [empty; 256];
     let mut count = 0usize;
     let mut last = 0u32;
     let mut at = 289usize;
     loop {
-        let verdict = header(bytes, 4, count, at);
-        match verdict {
-            Verdict::Refused(r) => return refused(r),
-            Verdict::Sound => {}
-        }
+        header(bytes, 4, count, at)?;
         if bytes[at] == 127 {
-            return finish(bytes, at + 3, types, source, target, subscribers, count);
+            let plan = Plan {
+                types: head.types,
+                source_order: source,
+                target_order: target,
+                subscribers,
+                count: count as u16,
+            };
+            return finish(bytes, at + 3, plan);
         }
         let n = two(bytes, at + 1) as usize;
         let s = subscriber_at(bytes, at + 3, (n - 13) / 2);
-        if !keeps(types, s, last, taken) {
-            return refused(Refusal::RuleBroken(at));
+        if !keeps(head.types, s, last, taken) {
+            return Err(Refusal::RuleBroken(at));
         }
         soundness::claim(taken, s);
         subscribers[count] = s;
@@ -341,204 +240,103 @@ fn read_subscribers(
     }
 }
 
-fn no_types() -> Types
-    ensures { result ≡ no_types }
-{
-    Types {
-        existing: 0,
-        bound: 0,
-        reversible: 0,
-        source_choice: 0,
-        target_choice: 0,
-    }
-}
-
-// A refusal of a fixed field; what stands beside it does not count.
-fn not_fixed(r: Refusal) -> Head
-    ensures { result.answer ≡ Refused r }
-{
-    Head {
-        answer: Verdict::Refused(r),
-        types: no_types(),
-        source: [0u32; 32],
-        target: [0u32; 32],
-    }
-}
-
 // From the target order on.
-fn fixed_target(bytes: &[u8], types: Types, source: [u32; 32]) -> Head
+fn fixed_target(bytes: &[u8], types: Types, source: [u32; 32]) -> Result<Head, Refusal>
     requires { 158 ≤ length bytes.now }
-    ensures { (onward result.answer result.types result.source result.target bytes.now ≡ read_from 258 3 (plan_of types source (replicate 32 0) (replicate 256 no_subscriber) 0) 158 (drop 158 bytes.now))
-        × (result.answer ≡ Sound → 289 ≤ length bytes.now) }
+    ensures { (onward result bytes.now ≡ read_from 258 3 (plan_of types source (replicate 32 0) (replicate 256 no_subscriber) 0) 158 (drop 158 bytes.now))
+        × (is_ok result ≡ true → 289 ≤ length bytes.now) }
 {
-    let verdict = header(bytes, 3, 0, 158);
-    match verdict {
-        Verdict::Refused(r) => not_fixed(r),
-        Verdict::Sound => {
-            let target = order_at(bytes, 161);
-            if !rules::target_sound(types, &source, &target) {
-                return not_fixed(Refusal::RuleBroken(158));
-            }
-            Head {
-                answer: Verdict::Sound,
-                types,
-                source,
-                target,
-            }
-        }
+    header(bytes, 3, 0, 158)?;
+    let target = order_at(bytes, 161);
+    if !rules::target_sound(types, &source, &target) {
+        return Err(Refusal::RuleBroken(158));
     }
+    Ok(Head {
+        types,
+        source,
+        target,
+    })
 }
 
 // From the source order on.
-fn fixed_source(bytes: &[u8], types: Types) -> Head
+fn fixed_source(bytes: &[u8], types: Types) -> Result<Head, Refusal>
     requires { 27 ≤ length bytes.now }
-    ensures { (onward result.answer result.types result.source result.target bytes.now ≡ read_from 259 2 (plan_of types (replicate 32 0) (replicate 32 0) (replicate 256 no_subscriber) 0) 27 (drop 27 bytes.now))
-        × (result.answer ≡ Sound → 289 ≤ length bytes.now) }
+    ensures { (onward result bytes.now ≡ read_from 259 2 (plan_of types (replicate 32 0) (replicate 32 0) (replicate 256 no_subscriber) 0) 27 (drop 27 bytes.now))
+        × (is_ok result ≡ true → 289 ≤ length bytes.now) }
 {
-    let verdict = header(bytes, 2, 0, 27);
-    match verdict {
-        Verdict::Refused(r) => not_fixed(r),
-        Verdict::Sound => {
-            let source = order_at(bytes, 30);
-            if !rules::source_sound(types, &source) {
-                return not_fixed(Refusal::RuleBroken(27));
-            }
-            fixed_target(bytes, types, source)
-        }
+    header(bytes, 2, 0, 27)?;
+    let source = order_at(bytes, 30);
+    if !rules::source_sound(types, &source) {
+        return Err(Refusal::RuleBroken(27));
     }
+    fixed_target(bytes, types, source)
 }
 
 // From the five sets on.
-fn fixed_types(bytes: &[u8]) -> Head
+fn fixed_types(bytes: &[u8]) -> Result<Head, Refusal>
     requires { 4 ≤ length bytes.now }
-    ensures { (onward result.answer result.types result.source result.target bytes.now ≡ read_from 260 1 blank_plan 4 (drop 4 bytes.now))
-        × (result.answer ≡ Sound → 289 ≤ length bytes.now) }
+    ensures { (onward result bytes.now ≡ read_from 260 1 blank_plan 4 (drop 4 bytes.now))
+        × (is_ok result ≡ true → 289 ≤ length bytes.now) }
 {
-    let verdict = header(bytes, 1, 0, 4);
-    match verdict {
-        Verdict::Refused(r) => not_fixed(r),
-        Verdict::Sound => {
-            let types = types_at(bytes, 7);
-            if !rules::types_sound(types) {
-                return not_fixed(Refusal::RuleBroken(4));
-            }
-            fixed_source(bytes, types)
-        }
+    header(bytes, 1, 0, 4)?;
+    let types = types_at(bytes, 7);
+    if !rules::types_sound(types) {
+        return Err(Refusal::RuleBroken(4));
     }
+    fixed_source(bytes, types)
 }
 
 // The four fixed fields of any bytes: reading on from them is reading the file.
-fn fixed(bytes: &[u8]) -> Head
-    ensures { (onward result.answer result.types result.source result.target bytes.now ≡ read_of bytes.now)
-        × (result.answer ≡ Sound → 289 ≤ length bytes.now) }
+fn fixed(bytes: &[u8]) -> Result<Head, Refusal>
+    ensures { (onward result bytes.now ≡ read_of bytes.now)
+        × (is_ok result ≡ true → 289 ≤ length bytes.now) }
 {
-    let verdict = header(bytes, 0, 0, 0);
-    match verdict {
-        Verdict::Refused(r) => not_fixed(r),
-        Verdict::Sound => {
-            if bytes[3] != 1 {
-                return not_fixed(Refusal::RuleBroken(0));
-            }
-            fixed_types(bytes)
-        }
+    header(bytes, 0, 0, 0)?;
+    if bytes[3] != 1 {
+        return Err(Refusal::RuleBroken(0));
     }
+    fixed_types(bytes)
 }
 
 // Any bytes: the plan whose file they are, or the refusal of the first field at which they stop being one.
-pub fn read(bytes: &[u8]) -> Reading
+pub fn read(bytes: &[u8]) -> Result<Plan, Refusal>
     ensures value { result ≡ read_of bytes.now }
-    ensures numbered { (number_said result.answer ≡ number_read bytes.now) × (place_said result.answer ≡ place_read bytes.now) }
+    ensures numbered { (number_said result ≡ number_read bytes.now) × (place_said result ≡ place_read bytes.now) }
 {
-    let f = fixed(bytes);
-    let verdict = f.answer;
-    let types = f.types;
-    let source = f.source;
-    let target = f.target;
-    match verdict {
-        Verdict::Refused(r) => refused(r),
-        Verdict::Sound => {
-            let mut taken = [0u32; 4096];
-            read_subscribers(bytes, types, source, target, &mut taken)
-        }
-    }
+    let head = fixed(bytes)?;
+    let mut taken = [0u32; 4096];
+    read_subscribers(bytes, head, &mut taken)
 }
 
 // ---- what the plan of a file shows, without the plan
 
-fn unseen(r: Refusal) -> Sight
-    ensures { result ≡ unseen r }
-{
-    let types = no_types();
-    let nobody = plan::no_subscriber();
-    let seen = Seen {
-        types,
-        source_order: [0u32; 32],
-        target_order: [0u32; 32],
-        first: nobody,
-        second: nobody,
-    };
-    Sight {
-        answer: Verdict::Refused(r),
-        seen,
-    }
-}
-
-// A refusal of a field after the fixed ones; what stands beside it does not count.
-fn stopped(r: Refusal) -> Pass
-    ensures { result.answer ≡ Refused r }
-{
-    let nobody = plan::no_subscriber();
-    Pass {
-        answer: Verdict::Refused(r),
-        one: nobody,
-        other: nobody,
-    }
-}
-
-// What comes after the end field, as in `finish`.
-fn pass_end(bytes: &[u8], at: usize, one: Subscriber, other: Subscriber) -> Pass
-    ensures { (t : Types) (source target : List ℕ) → sighted result.answer t source target result.one result.other ≡ shown_end t source target one other at (drop at bytes.now) }
-{
-    if bytes.len() <= at {
-        return Pass {
-            answer: Verdict::Sound,
-            one,
-            other,
-        };
-    }
-    stopped(Refusal::WrongEnd(at))
-}
-
 // The fields after the four fixed ones, as in `read_subscribers`; of the subscribers only those of the two addresses are kept. The orders are not asked here: whoever calls has them.
+// The two loops stay two: as one with a closure for what is kept it would promise a fold, and each of the two promises would need a law of its own to say what the fold holds.
 fn pass_subscribers(
     bytes: &[u8],
     types: Types,
     first: u32,
     second: u32,
     taken: &mut [u32; 4096],
-) -> Pass
+) -> Result<(Subscriber, Subscriber), Refusal>
     requires { (289 ≤ length bytes.now) × (taken.old ≡ replicate 4096 0) }
-    ensures { (source target : List ℕ) → sighted result.answer types source target result.one result.other
+    ensures { (source target : List ℕ) → sighted result types source target
         ≡ scanned first second (read_from 257 4 (plan_of types source target (replicate 256 no_subscriber) 0) 289 (drop 289 bytes.now)) }
 {
     let mut one = plan::no_subscriber();
     let mut other = plan::no_subscriber();
     let mut count = 0usize;
-    let mut last = 0u32;
+    let mut before = 0u32;
     let mut at = 289usize;
     loop {
-        let verdict = header(bytes, 4, count, at);
-        match verdict {
-            Verdict::Refused(r) => return stopped(r),
-            Verdict::Sound => {}
-        }
+        header(bytes, 4, count, at)?;
         if bytes[at] == 127 {
-            return pass_end(bytes, at + 3, one, other);
+            return finish(bytes, at + 3, (one, other));
         }
         let n = two(bytes, at + 1) as usize;
         let s = subscriber_at(bytes, at + 3, (n - 13) / 2);
-        if !keeps(types, s, last, taken) {
-            return stopped(Refusal::RuleBroken(at));
+        if !keeps(types, s, before, taken) {
+            return Err(Refusal::RuleBroken(at));
         }
         soundness::claim(taken, s);
         if s.address == first {
@@ -547,77 +345,37 @@ fn pass_subscribers(
         if s.address == second {
             other = s;
         }
-        last = s.address;
+        before = s.address;
         count += 1;
         at = at + (3 + n);
     }
 }
 
-// What is answered, the orders with it.
-fn sighted(
-    answer: Verdict,
-    types: Types,
-    source: [u32; 32],
-    target: [u32; 32],
-    one: Subscriber,
-    other: Subscriber,
-) -> Sight
-    ensures { result ≡ sighted answer types source target one other }
-{
-    match answer {
-        Verdict::Refused(r) => unseen(r),
-        Verdict::Sound => {
-            let seen = Seen {
-                types,
-                source_order: source,
-                target_order: target,
-                first: one,
-                second: other,
-            };
-            Sight {
-                answer: Verdict::Sound,
-                seen,
-            }
-        }
-    }
-}
-
 // What the plan whose file any bytes are shows of two addresses; or the refusal that reading them has.
-pub fn scan(bytes: &[u8], first: u32, second: u32) -> Sight
+pub fn scan(bytes: &[u8], first: u32, second: u32) -> Result<Seen, Refusal>
     ensures { result ≡ scanned first second (read_of bytes.now) }
 {
-    let f = fixed(bytes);
-    let verdict = f.answer;
-    let types = f.types;
-    let source = f.source;
-    let target = f.target;
-    match verdict {
-        Verdict::Refused(r) => unseen(r),
-        Verdict::Sound => {
-            let mut taken = [0u32; 4096];
-            let p = pass_subscribers(bytes, types, first, second, &mut taken);
-            let answer = p.answer;
-            let one = p.one;
-            let other = p.other;
-            sighted(answer, types, source, target, one, other)
-        }
-    }
+    let head = fixed(bytes)?;
+    let source_order = head.source;
+    let target_order = head.target;
+    let mut taken = [0u32; 4096];
+    let (first, second) = pass_subscribers(bytes, head.types, first, second, &mut taken)?;
+    Ok(Seen {
+        types: head.types,
+        source_order,
+        target_order,
+        first,
+        second,
+    })
 }
 
 // Whether any bytes are a plan file; or the refusal that reading them has. Nothing of the plan is kept.
-pub fn verdict(bytes: &[u8]) -> Verdict
-    ensures value { result ≡ (read_of bytes.now).answer }
+pub fn verdict(bytes: &[u8]) -> Result<(), Refusal>
+    ensures value { result ≡ judged (read_of bytes.now) }
     ensures numbered { (number_said result ≡ number_read bytes.now) × (place_said result ≡ place_read bytes.now) }
 {
-    let f = fixed(bytes);
-    let answer = f.answer;
-    let types = f.types;
-    match answer {
-        Verdict::Refused(r) => Verdict::Refused(r),
-        Verdict::Sound => {
-            let mut taken = [0u32; 4096];
-            let p = pass_subscribers(bytes, types, 0, 0, &mut taken);
-            p.answer
-        }
-    }
+    let types = fixed(bytes)?.types;
+    let mut taken = [0u32; 4096];
+    pass_subscribers(bytes, types, 0, 0, &mut taken)?;
+    Ok(())
 }

@@ -1,4 +1,5 @@
 -- A file as a whole: how many bytes it has, and what writing it leaves in the room. Assumes nothing.
+use Rattle.std.specs.Prelude.{Some, None, Result, Ok, Err}
 use mathlib.Core.Path.{◌≡◌, refl, sym, ap, ◌∙◌}
 use mathlib.Core.Bool.{Bool, true, false, ◌&&◌, cond}
 use mathlib.Core.Logic.{⊎_elim}
@@ -13,15 +14,14 @@ use borrow.Author.Tests.{le-leb, lt-leb}
 use Rattle.refusal.specs.declared.Refusal.TheVariants.{RuleBroken, RoomTooShort}
 use Rattle.plan.specs.declared.Plan.{Plan}
 use Rattle.plan.specs.Sound.{sound}
-use Rattle.refusal.specs.declared.Place.TheVariants.{Nowhere, At}
-use Rattle.planwrite.specs.declared.Written.{Written}
-use Rattle.planwrite.specs.declared.Written.TheVariants.{Bytes, Refused}
 use Rattle.planbytes.specs.Numbers.{high}
 use Rattle.planbytes.specs.Format.{field, head_fields, subscriber_fields, end_field, bytes_of}
-use Rattle.planwrite.specs.Writing.{answer_of, written_by, room_after_by, written, room_after, number_written, place_written}
+use Rattle.refusal.specs.Numbers.{number_said, place_said}
+use Rattle.planwrite.specs.Writing.{answer_of, written_by, room_after_by, written, room_after}
 use Rattle.planwrite.proofs.Puts.{puts_then}
 use Rattle.planbytes.proofs.Lengths.{head-length}
 use Rattle.typeset.proofs.Laws.{split}
+use Rattle.refusal.specs.declared.Refusal.{Refusal}
 
 pub end_is : end_field ≡ high 1 127 ++ high 2 0
 unfolding end_field field high
@@ -29,29 +29,29 @@ end_is = refl
 
 -- ---- the numbers of the answer: 23, then 25, at place 0
 
-answer-number : (kept fits : Bool) (n : ℕ) → number_written (answer_of kept fits n) ≡ cond kept (cond fits 0 25) 23
+answer-number : (kept fits : Bool) (n : ℕ) → number_said (answer_of kept fits n) ≡ cond kept (cond fits 0 25) 23
 answer-number false fits n = refl
 answer-number true false n = refl
 answer-number true true n = refl
 
-answer-place : (kept fits : Bool) (n : ℕ) → place_written (answer_of kept fits n) ≡ cond (kept && fits) Nowhere (At 0)
+answer-place : (kept fits : Bool) (n : ℕ) → place_said (answer_of kept fits n) ≡ cond (kept && fits) None (Some 0)
 answer-place false fits n = refl
 answer-place true false n = refl
 answer-place true true n = refl
 
-pub write-number : (p : Plan) (room : List ℕ) → number_written (written p room) ≡ cond (sound p) (cond (leb (length (bytes_of p)) (length room)) 0 25) 23
+pub write-number : (p : Plan) (room : List ℕ) → number_said (written p room) ≡ cond (sound p) (cond (leb (length (bytes_of p)) (length room)) 0 25) 23
 unfolding written_by
 write-number p room = answer-number (sound p) (leb (length (bytes_of p)) (length room)) (length (bytes_of p))
 
-pub write-place : (p : Plan) (room : List ℕ) → place_written (written p room) ≡ cond (sound p && leb (length (bytes_of p)) (length room)) Nowhere (At 0)
+pub write-place : (p : Plan) (room : List ℕ) → place_said (written p room) ≡ cond (sound p && leb (length (bytes_of p)) (length room)) None (Some 0)
 unfolding written_by
 write-place p room = answer-place (sound p) (leb (length (bytes_of p)) (length room)) (length (bytes_of p))
 
 -- what is answered and left, with its number and its place
-pub said : (p : Plan) (room : List ℕ) {w : Written} {a : List ℕ} → (w ≡ written p room) × (a ≡ room_after p room)
+pub said : (p : Plan) (room : List ℕ) {w : (Result ℕ Refusal)} {a : List ℕ} → (w ≡ written p room) × (a ≡ room_after p room)
     → ((w ≡ written p room) × (a ≡ room_after p room))
-    × ((number_written w ≡ cond (sound p) (cond (leb (length (bytes_of p)) (length room)) 0 25) 23) × (place_written w ≡ cond (sound p && leb (length (bytes_of p)) (length room)) Nowhere (At 0)))
-said p room e = (e, (ap number_written e.0 ∙ write-number p room, ap place_written e.0 ∙ write-place p room))
+    × ((number_said w ≡ cond (sound p) (cond (leb (length (bytes_of p)) (length room)) 0 25) 23) × (place_said w ≡ cond (sound p && leb (length (bytes_of p)) (length room)) None (Some 0)))
+said p room e = (e, (ap (λ (r : Result ℕ Refusal). number_said r) e.0 ∙ write-number p room, ap (λ (r : Result ℕ Refusal). place_said r) e.0 ∙ write-place p room))
 
 -- ---- the file
 
@@ -79,12 +79,12 @@ module _ (p : Plan) (rows : length p.source_order ≡ 32) (columns : length p.ta
       ∙ rw before-end (omega arith)
 
   module _ (kept : Bool) (room : List ℕ) where
-    pub write-broken : kept ≡ false → (Refused (RuleBroken 0) ≡ written_by kept p room) × (room ≡ room_after_by kept p room)
+    pub write-broken : kept ≡ false → (Err (RuleBroken 0) ≡ written_by kept p room) × (room ≡ room_after_by kept p room)
     unfolding written_by room_after_by
     write-broken e = (rw e, rw e)
 
     pub write-short : {a : List ℕ} → a ≡ room → kept ≡ true → length room < 292 + length (subscriber_fields (take p.count p.subscribers))
-        → (Refused (RoomTooShort 0) ≡ written_by kept p room) × (a ≡ room_after_by kept p room)
+        → (Err (RoomTooShort 0) ≡ written_by kept p room) × (a ≡ room_after_by kept p room)
     unfolding written_by room_after_by
     write-short same e h =
         let short : leb (length (bytes_of p)) (length room) ≡ false = lt-leb (length (bytes_of p)) (length room) (rw file-length h) in
@@ -105,7 +105,7 @@ module _ (p : Plan) (rows : length p.source_order ≡ 32) (columns : length p.ta
         → a ≡ sets same 0 (head_fields p.types p.source_order p.target_order)
         → b ≡ sets a 289 (subscriber_fields (take p.count p.subscribers))
         → c ≡ sets b (289 + length (subscriber_fields (take p.count p.subscribers))) (high 1 127 ++ high 2 0)
-        → (Bytes n ≡ written_by kept p room) × (c ≡ room_after_by kept p room)
+        → (Ok n ≡ written_by kept p room) × (c ≡ room_after_by kept p room)
     unfolding written_by room_after_by
     write_done {n} {same} {a} {b} {c} s e size h x y z =
         let is : length (bytes_of p) ≡ n = file-length ∙ sym size in

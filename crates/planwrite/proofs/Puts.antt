@@ -2,11 +2,12 @@
 use mathlib.Core.Path.{◌≡◌, refl, sym, ap, ◌∙◌}
 use mathlib.Core.Bool.{Bool, true, false, not, cond, true≢false}
 use mathlib.Core.List.{List, [], ◌∷◌, ◌++◌, append_assoc}
-use Prim.Native.Nat.{ℕ, zero, suc, ◌+◌, ◌*◌, ◌%◌, ◌≤◌, ◌<◌}
+use Prim.Native.Nat.{ℕ, zero, suc, ◌+◌, ◌-◌, ◌*◌, ◌%◌, ◌≤◌, ◌<◌}
 use native.Mathlib.Numerals.{add-one}
 use native.Mathlib.Omega.{arith}
 use lib.ListN.{length, get_or, take, drop, set, length-append, length-take, drop_of_length-le}
-use lib.Seq.{drop-cons, sets, get_or-take, length-sets}
+use lib.Seq.{drop-cons, sets, sets-eq, get_or-take, length-sets}
+use borrow.Rule.Slice.PartMut.{put_mid, post_of, Post-is}
 use Rattle.plan.specs.declared.Types.{Types}
 use Rattle.plan.specs.declared.Subscriber.{Subscriber}
 use Rattle.plan.specs.Parts.{nobody, at}
@@ -24,6 +25,12 @@ sets-append (x ∷ xs) ys l at =
 
 pub puts_then : (l xs ys : List ℕ) (at n to : ℕ) {m r : List ℕ} → m ≡ sets l at xs → r ≡ sets m to ys → length xs ≡ n → to ≡ at + n → r ≡ sets l at (xs ++ ys)
 puts_then l xs ys at n to p q e f = q ∙ rw (f, ← e, p) (sym (sets-append xs ys l at))
+
+-- a part of the room that is overwritten
+pub part-stored : (l part : List ℕ) (at n : ℕ) → at + length part ≤ length l → n ≡ length part → put_mid at (at + n - at) l part ≡ sets l at part
+part-stored l part at n h e =
+    let rest : post_of at (at + n - at) l ≡ drop (at + n) l = Post-is at (at + n) l (omega arith) in
+    rw (rest, e) (sym (sets-eq part l at h ∙ append_assoc (take at l) part (drop (at + length part) l)))
 
 -- a number of one byte
 pub low_byte : (l : List ℕ) (at : ℕ) {b : ℕ} → b < 256 → set l at b ≡ sets l at (high 1 b)

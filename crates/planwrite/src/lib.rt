@@ -3,23 +3,16 @@
 
 ghost use Rattle.std.specs.Prelude.{◌≡◌, ◌&&◌, cond, [], ◌∷◌, ◌++◌, ◌+◌, ◌*◌, ◌≤◌, ◌<◌, min, leb, length, take};
 ghost use Rattle.std.proofs.lemmas.List.Edits.{sets};
-ghost use Rattle.refusal.specs.declared.Place.TheVariants.{Nowhere, At};
 ghost use Rattle.plan.specs.Sound.{sound};
 ghost use Rattle.planbytes.specs.Numbers.{high, row};
 ghost use Rattle.planbytes.specs.Format.{field, version_body, types_body, order_body, subscriber_body, head_fields, subscriber_fields, bytes_of};
-ghost use Rattle.planwrite.specs.Writing.{written_by, room_after_by, written, room_after, number_written, place_written};
+ghost use Rattle.refusal.specs.Numbers.{number_said, place_said};
+ghost use Rattle.planwrite.specs.Writing.{written, room_after};
 
 use plan::{Plan, Subscriber, Types};
 use refusal::Refusal;
 
-// What writing answers: how many bytes the file has, or a refusal.
-#[derive(Clone, Copy)]
-pub enum Written {
-    Bytes(usize),
-    Refused(Refusal),
-}
-
-// ---- writing: each function fills the room from a place on
+// ---- writing: each function fills the room from a place on. Room and place: what is past it stays, which the promise says of the whole room.
 
 fn put_one(room: &mut [u8], at: usize, n: u8)
     requires { at < length room.old }
@@ -28,24 +21,22 @@ fn put_one(room: &mut [u8], at: usize, n: u8)
     room[at] = n;
 }
 
-fn put_two(room: &mut [u8], at: usize, n: u32)
+fn put_two(room: &mut [u8], at: usize, n: u16)
     requires { at + 2 ≤ length room.old }
     ensures { room.new ≡ sets room.old at (high 2 n) }
 {
-    room[at] = (n / 256 % 256) as u8;
-    room[at + 1] = (n % 256) as u8;
+    room[at..at + 2].copy_from_slice(&n.to_be_bytes());
 }
 
 fn put_four(room: &mut [u8], at: usize, n: u32)
     requires { at + 4 ≤ length room.old }
     ensures { room.new ≡ sets room.old at (high 4 n) }
 {
-    put_two(room, at, n / 256 / 256);
-    put_two(room, at + 2, n);
+    room[at..at + 4].copy_from_slice(&n.to_be_bytes());
 }
 
 // A tag, and the length of the body that is to follow.
-fn put_header(room: &mut [u8], at: usize, tag: u8, n: u32)
+fn put_header(room: &mut [u8], at: usize, tag: u8, n: u16)
     requires { at + 3 ≤ length room.old }
     ensures { room.new ≡ sets room.old at (high 1 tag ++ high 2 n) }
 {
@@ -88,8 +79,8 @@ fn put_rows(room: &mut [u8], at: usize, rows: [u32; 32])
     requires { at + 128 ≤ length room.old }
     ensures { room.new ≡ sets room.old at (order_body rows) }
 {
-    for t in 0usize..32usize {
-        put_four(room, at + 4 * t, rows[t]);
+    for (t, row) in rows.iter().enumerate() {
+        put_four(room, at + 4 * t, *row);
     }
 }
 
@@ -117,7 +108,7 @@ fn put_head(room: &mut [u8], types: Types, source: [u32; 32], target: [u32; 32])
 fn used(s: Subscriber) -> usize
     ensures { (result ≡ length (take s.count s.boxes)) × (result ≤ 4) }
 {
-    if s.count < 4 { s.count as usize } else { 4 }
+    usize::from(s.count).min(4)
 }
 
 // Box numbers, without the header: two bytes each.
@@ -125,8 +116,8 @@ fn put_boxes(room: &mut [u8], at: usize, boxes: [u16; 4], count: usize)
     requires { (count ≤ 4) × (at + 2 * count ≤ length room.old) }
     ensures { room.new ≡ sets room.old at (row 2 (take count boxes)) }
 {
-    for x in 0usize..count {
-        put_two(room, at + 2 * x, boxes[x] as u32);
+    for (x, number) in boxes[..count].iter().enumerate() {
+        put_two(room, at + 2 * x, *number);
     }
 }
 
@@ -148,7 +139,7 @@ fn put_fixed(room: &mut [u8], at: usize, s: Subscriber)
     put_four(room, at + 9, s.target);
 }
 
-// A subscriber's field, put into the room or only counted; the place after it.
+// A subscriber's field, put into the room or only counted; the place after it. One function does both, so that what is counted is what is put; two would need a law that says so.
 fn put_subscriber(room: &mut [u8], at: usize, s: Subscriber, put: bool) -> usize
     requires { (at ≤ 6409) × (cond put (at + length (field 5 (subscriber_body s))) 0 ≤ length room.old) }
     ensures { (room.new ≡ cond put (sets room.old at (field 5 (subscriber_body s))) room.old)
@@ -160,7 +151,7 @@ fn put_subscriber(room: &mut [u8], at: usize, s: Subscriber, put: bool) -> usize
         return end;
     }
     let boxes = s.boxes;
-    put_header(room, at, 5, 13 + 2 * count as u32);
+    put_header(room, at, 5, 13 + 2 * count as u16);
     put_fixed(room, at + 3, s);
     put_boxes(room, at + 16, boxes, count);
     end
@@ -177,55 +168,41 @@ fn put_subscribers(
     ensures { (room.new ≡ cond put (sets room.old 289 (subscriber_fields (take count subscribers))) room.old)
         × (result ≡ 289 + length (subscriber_fields (take count subscribers))) × (result ≤ 6433) × (length subscribers ≡ 256) }
 {
-    let mut at = 289usize;
-    let mut i = 0usize;
-    let mut left = count;
-    while 0 < left {
-        let s = subscribers[i];
-        at = put_subscriber(room, at, s, put);
-        i += 1;
-        left -= 1;
+    let mut at = 289;
+    for s in &subscribers[..count] {
+        at = put_subscriber(room, at, *s, put);
     }
     at
 }
 
-// How many places of a plan with this count there are to write: no more than it has.
+// How many places of a plan with this count there are to write: no more than it has. (plan has the same by itself: one line is less than a public function.)
 fn places(count: u16) -> usize
     ensures { (result ≡ min count 256) × (result ≤ 256) }
 {
-    if count < 256 { count as usize } else { 256 }
+    usize::from(count).min(256)
 }
 
-// Writing, after the test: `kept` says whether the plan is sound. Nothing else is taken on trust.
-fn write_tested(kept: bool, plan: Plan, room: &mut [u8]) -> Written
-    ensures { (result ≡ written_by kept plan room.old) × (room.new ≡ room_after_by kept plan room.old) }
+// A sound plan's file into the room, if it fits in: how many bytes it has. The bytes past it stay.
+pub fn write(plan: Plan, room: &mut [u8]) -> Result<usize, Refusal>
+    ensures value { (result ≡ written plan room.old) × (room.new ≡ room_after plan room.old) }
+    ensures numbered { (number_said result ≡ cond (sound plan) (cond (leb (length (bytes_of plan)) (length room.old)) 0 25) 23)
+        × (place_said result ≡ cond (sound plan && leb (length (bytes_of plan)) (length room.old)) None (Some 0)) }
 {
-    let types = plan.types;
     let source = plan.source_order;
     let target = plan.target_order;
     let subscribers = plan.subscribers;
     let count = places(plan.count);
-    if !kept {
-        return Written::Refused(Refusal::RuleBroken(0));
+    if !soundness::sound(plan) {
+        return Err(Refusal::RuleBroken(0));
     }
     // Only counted: no byte is written before the room is known to be long enough. The end field has three bytes.
     let end = put_subscribers(room, subscribers, count, false);
     let size = end + 3;
     if room.len() < size {
-        return Written::Refused(Refusal::RoomTooShort(0));
+        return Err(Refusal::RoomTooShort(0));
     }
-    put_head(room, types, source, target);
+    put_head(room, plan.types, source, target);
     put_subscribers(room, subscribers, count, true);
     put_header(room, end, 127, 0);
-    Written::Bytes(size)
-}
-
-// A sound plan's file into the room, if it fits in: how many bytes it has. The bytes past it stay.
-pub fn write(plan: Plan, room: &mut [u8]) -> Written
-    ensures value { (result ≡ written plan room.old) × (room.new ≡ room_after plan room.old) }
-    ensures numbered { (number_written result ≡ cond (sound plan) (cond (leb (length (bytes_of plan)) (length room.old)) 0 25) 23)
-        × (place_written result ≡ cond (sound plan && leb (length (bytes_of plan)) (length room.old)) Nowhere (At 0)) }
-{
-    let kept = soundness::sound(plan);
-    write_tested(kept, plan, room)
+    Ok(size)
 }

@@ -16,8 +16,10 @@ use Rattle.ends.specs.declared.State.TheVariants.{Idle, Linked, Unlinking}
 use Rattle.ends.specs.declared.Status.TheVariants.{Unknown, Unavail}
 use Rattle.ends.specs.declared.Signal.{Signal}
 use Rattle.ends.specs.declared.Signal.TheVariants.{Upack, Ordinary, Teardown, Downack}
-use Rattle.ends.specs.declared.Verdict.{Verdict}
-use Rattle.ends.specs.declared.Verdict.TheVariants.{Refuse as refuse, Become as become}
+use Rattle.std.specs.Prelude.{Result, Ok, Err}
+use Rattle.refusal.specs.declared.Refusal.{Refusal}
+use Rattle.ends.specs.declared.State.{State}
+use Rattle.std.specs.Prelude.{Ok, Err}
 use Rattle.ends.specs.declared.Side.{Side}
 use Rattle.ends.specs.declared.Side.TheVariants.{Callee}
 use Rattle.ends.specs.Ends.{is_linked, is_ordinary, fits_with, channel_at, answers, tears, forbidden, takes_with}
@@ -25,14 +27,14 @@ use Rattle.signalbytes.specs.Numbers.{state_said, state_number, status_said, sta
 use Rattle.call.specs.declared.Call.{Call}
 use Rattle.call.specs.declared.Command.{Command}
 use Rattle.call.specs.declared.Command.TheVariants.{Accept, Busy, Unobtainable, Send, Teardown as Hang-up, Deliver}
-use Rattle.call.specs.declared.Answer.{Answer}
-use Rattle.call.specs.declared.Answer.TheVariants.{Delivered, Refused}
+use Rattle.call.specs.Protocol.{Answer}
+use Rattle.std.specs.Prelude.{Some, Ok, Err}
 use Rattle.call.specs.Protocol.{other, end_of, state_of, queue_to, slot, speaks, takes}
 use Rattle.recordbytes.specs.declared.Commanded.{Commanded}
 use Rattle.recordbytes.specs.Records.{state_place, queue_place, channel_place, call_at}
 use Rattle.recordbytes.specs.Steps.{Stepped, refusing_at, settled_at, signal_bytes, popped_at}
 use Rattle.recordbytes.specs.Numbers.{side_of, command_of, commanded_said, in_word}
-use Rattle.recordbytes.specs.Parts.{handed_over, next_in, fits_in, put_at, acted_at, one_sent_at, three_sent_at, given_at, replied_at}
+use Rattle.recordbytes.specs.Parts.{Says, handed_over, next_in, fits_in, put_at, acted_at, one_sent_at, three_sent_at, given_at, replied_at}
 use Rattle.recordbytes.proofs.Steps.{state-from, channel-from, count-from, head-from, Gives, given-as, refusing-as, one_more, one-refused, one-over, three-refused, three-over, three-more, accepts, is-busy, is-unobtainable, sends-one, tears-down, deliver-none, deliver-refuse, deliver-become, handed-upack, handed-ordinary, handed-downack, handed-teardown, no-reply}
 use Rattle.recordbytes.proofs.Numbers.{waiting-said, linked-said, open_said, own-numbers, put-pushed, fits_said, passed-said, upack-taken, downack-taken, teardown-taken, ordinary-taken, heard-from-linked, number-from-linked, torn_from, torn-from-linked, torn-number, unlinking-from}
 
@@ -53,9 +55,6 @@ word-handed s t c hs ht hc =
     λ i. record { number = e0 i; delivered = e1 i; signal = e2 i; tunnel = e3 i; code = e4 i }
 
 -- an answer and bytes are a step's
-abbrev pub Says : Stepped → ℕ → List ℕ → Type 0
-Says s z w = (in_word z ≡ commanded_said s.answer) × (w ≡ s.bytes)
-
 pub told : {s : Stepped} {a : Answer} {w : List ℕ} (z : ℕ) → in_word z ≡ commanded_said a → Gives s a w → Says s z w
 told z e g = (e ∙ ap commanded_said g.0, g.1)
 
@@ -63,7 +62,7 @@ pub said-as : {s t : Stepped} (z : ℕ) {w : List ℕ} → t ≡ s → Says s z 
 said-as z e g = rw e g
 
 -- a refusal by its number
-pub refused-by : (b : List ℕ) (at : ℕ) (r : Refusal) {t : Stepped} (z : ℕ) → in_word z ≡ commanded_said (Refused r) → t ≡ refusing_at b r → Says t z b
+pub refused-by : (b : List ℕ) (at : ℕ) (r : Refusal) {t : Stepped} (z : ℕ) → in_word z ≡ commanded_said (Err r) → t ≡ refusing_at b r → Says t z b
 refused-by b at r z e i = told z e (refusing-as b at i)
 
 -- the count of a queue, where it stands
@@ -76,10 +75,10 @@ module _ (b : List ℕ) (at : ℕ) where
   abbrev c : Call
   c = call_at b at
 
-  not-waiting : (st : State) → get_or b (at + 1) 0 ≢ 2 → answers (state_said (get_or b (at + 1) 0)) st ≡ refuse StateForbids
+  not-waiting : (st : State) → get_or b (at + 1) 0 ≢ 2 → answers (state_said (get_or b (at + 1) 0)) st ≡ Err StateForbids
   not-waiting st h = rw (waiting-said (get_or b (at + 1) 0), ne_eqb (get_or b (at + 1) 0) 2 h) refl
 
-  is-waiting : (st : State) → get_or b (at + 1) 0 ≡ 2 → answers (state_said (get_or b (at + 1) 0)) st ≡ become st
+  is-waiting : (st : State) → get_or b (at + 1) 0 ≡ 2 → answers (state_said (get_or b (at + 1) 0)) st ≡ Ok st
   is-waiting st h = rw h refl
 
   accepts-by : acted_at b at Accept ≡ one_sent_at b at Callee (answers (state_said (get_or b (at + 1) 0)) Linked) Upack
@@ -125,10 +124,10 @@ module _ (b : List ℕ) (at : ℕ) where
 
     pub teardown-not : get_or b (at + n) 0 ≢ 3 → Says (acted_at b at (Hang-up s)) 12 b
     teardown-not h =
-        let v : tears (state_of s c) ≡ refuse StateForbids = rw (not-linked h) refl in
+        let v : tears (state_of s c) ≡ Err StateForbids = rw (not-linked h) refl in
         told 12 refl (given-as (tears-down b at s) (one-refused b at s Teardown v))
 
-    torn : get_or b (at + n) 0 ≡ 3 → tears (state_of s c) ≡ become Unlinking
+    torn : get_or b (at + n) 0 ≡ 3 → tears (state_of s c) ≡ Ok Unlinking
     torn h = rw (is-linked h) refl
 
     pub teardown-full : {q : ℕ} → q ≡ queue_place (other s) → get_or b (at + n) 0 ≡ 3 → 15 < get_or b (at + q) 0 → Says (acted_at b at (Hang-up s)) 17 b
@@ -141,18 +140,18 @@ module _ (b : List ℕ) (at : ℕ) where
 
     -- a send, by its numbers
     module _ (t m code : ℕ) where
-      abbrev speaking : Verdict
+      abbrev speaking : Result State Refusal
       speaking = speaks s (end_of s c) t (status_said m code) (queue_to (other s) c).count
 
       pub send-not : get_or b (at + n) 0 ≢ 3 → Says (acted_at b at (Send s t (status_said m code))) 12 b
       send-not h =
-          let v : speaking ≡ refuse StateForbids = rw (not-linked h) refl in
+          let v : speaking ≡ Err StateForbids = rw (not-linked h) refl in
           told 12 refl (given-as (sends-one b at s t (status_said m code)) (one-refused b at s (Ordinary t (status_said m code)) v))
 
       module _ (h : get_or b (at + n) 0 ≡ 3) where
         pub send-no-ordinary : is_ordinary t (status_said m code) ≡ false → Says (acted_at b at (Send s t (status_said m code))) 15 b
         send-no-ordinary o =
-            let v : speaking ≡ refuse NotOrdinary = rw (is-linked h, o) refl in
+            let v : speaking ≡ Err NotOrdinary = rw (is-linked h, o) refl in
             told 15 refl (given-as (sends-one b at s t (status_said m code)) (one-refused b at s (Ordinary t (status_said m code)) v))
 
         module _ (o : is_ordinary t (status_said m code) ≡ true) {p next : ℕ} (ht : t < 256) (ep : p ≡ channel_place s + t) (ex : next ≡ next_in s true t m (get_or b (at + p) 0)) where
@@ -167,11 +166,11 @@ module _ (b : List ℕ) (at : ℕ) where
 
           pub send-unfit : (k : ℕ) → fits_in t m next ≡ false → k ≡ cond (eqb m 11) 40 41 → Says (acted_at b at (Send s t (status_said m code))) k b
           send-unfit k f ek =
-              let v : speaking ≡ refuse (forbidden (status_said m code)) = rw (is-linked h, o, fit-as false f) refl in
-              let said : in_word k ≡ commanded_said (Refused (forbidden (status_said m code))) = rw (ek, open_said m code) (why (eqb m 11)) in
+              let v : speaking ≡ Err (forbidden (status_said m code)) = rw (is-linked h, o, fit-as false f) refl in
+              let said : in_word k ≡ commanded_said (Err (forbidden (status_said m code))) = rw (ek, open_said m code) (why (eqb m 11)) in
               told k said (given-as (sends-one b at s t (status_said m code)) (one-refused b at s (Ordinary t (status_said m code)) v))
             where
-              why : (z : Bool) → in_word (cond z 40 41) ≡ commanded_said (Refused (cond z TunnelTaken ChannelForbids))
+              why : (z : Bool) → in_word (cond z 40 41) ≡ commanded_said (Err (cond z TunnelTaken ChannelForbids))
               why true = refl
               why false = refl
 
@@ -182,7 +181,7 @@ module _ (b : List ℕ) (at : ℕ) where
             pub send-many : 13 < get_or b (at + q) 0 → Says (acted_at b at (Send s t (status_said m code))) 13 b
             send-many g =
                 let few = le-ltb (queue_to (other s) c).count 14 (rw own-count at g) in
-                let v : speaking ≡ refuse TooManyWaiting = rw (is-linked h, o, fit-as true f, few) refl in
+                let v : speaking ≡ Err TooManyWaiting = rw (is-linked h, o, fit-as true f, few) refl in
                 told 13 refl (given-as (sends-one b at s t (status_said m code)) (one-refused b at s (Ordinary t (status_said m code)) v))
 
             pub send-more : {w z : List ℕ} → get_or b (at + q) 0 ≤ 13 → w ≡ cond (eqb t 0) b (set b (at + p) next) → z ≡ put_at w (at + q) (m ∷ t ∷ cond (eqb m 7) code (cond (eqb m 8) code 0) ∷ [])
@@ -192,7 +191,7 @@ module _ (b : List ℕ) (at : ℕ) where
                 let stays : settled_at b at s Linked ≡ b = ap (set b (at + state_place s)) (sym (rw en at h)) ∙ set-get_or b (at + state_place s) 0 in
                 let place : at + p ≡ at + channel_place s + t = rw ep (omega arith) in
                 let passes = passed-said b at s true t m code place ex ew in
-                let v : speaking ≡ become Linked = rw (is-linked h, o, fit-as true f, many) refl in
+                let v : speaking ≡ Ok Linked = rw (is-linked h, o, fit-as true f, many) refl in
                 told 0 refl
                 (given-as (sends-one b at s t (status_said m code))
                 (one_more b at s (Ordinary t (status_said m code)) (sym stays) passes v eq (omega (arith, g))
@@ -202,7 +201,7 @@ module _ (b : List ℕ) (at : ℕ) where
 
   module _ (s : Side) where
     abbrev head : Signal
-    head = (slot (queue_to s c).slots 0).signal
+    head = slot (queue_to s c).slots 0
 
     pub deliver-empty : {q : ℕ} → q ≡ queue_place s → get_or b (at + q) 0 ≡ 0 → Says (acted_at b at (Deliver s)) 14 b
     deliver-empty eq h = refused-by b at NothingWaiting 14 refl (deliver-none b at s (sym (count-from s b at) ∙ rw (sym eq) h))
@@ -221,25 +220,25 @@ module _ (b : List ℕ) (at : ℕ) where
       number = by_number s en
 
       -- a signal that has no channel
-      refused-signal : {x : Signal} → head ≡ x → ((k : ℕ) → takes_with (state_said state) s x k ≡ refuse BrokenRecord) → Says (acted_at b at (Deliver s)) 17 b
+      refused-signal : {x : Signal} → head ≡ x → ((k : ℕ) → takes_with (state_said state) s x k ≡ Err BrokenRecord) → Says (acted_at b at (Deliver s)) 17 b
       refused-signal ex h = refused-by b at BrokenRecord 17 refl (deliver-refuse b at s BrokenRecord some (rw (number, ex) (h _)))
 
-      become-signal : {x : Signal} (st : State) → head ≡ x → ((k : ℕ) → takes_with (state_said state) s x k ≡ become st) → acted_at b at (Deliver s) ≡ replied_at b at s st head
+      become-signal : {x : Signal} (st : State) → head ≡ x → ((k : ℕ) → takes_with (state_said state) s x k ≡ Ok st) → acted_at b at (Deliver s) ≡ replied_at b at s st head
       become-signal st ex h = deliver-become b at s st some few (rw (number, ex) (h _))
 
       pub upack-not : head ≡ Upack → state ≢ 1 → Says (acted_at b at (Deliver s)) 17 b
       upack-not ex h = refused-signal ex (λ k. upack-taken s k state h)
 
-      pub upack-handed : (z : ℕ) {q : ℕ} {w : List ℕ} → q ≡ queue_place s → head ≡ Upack → state ≡ 1 → w ≡ popped_at (set b (at + n) 3) (at + q) → in_word z ≡ commanded_said (Delivered Upack) → Says (acted_at b at (Deliver s)) z w
+      pub upack-handed : (z : ℕ) {q : ℕ} {w : List ℕ} → q ≡ queue_place s → head ≡ Upack → state ≡ 1 → w ≡ popped_at (set b (at + n) 3) (at + q) → in_word z ≡ commanded_said (Ok (Some Upack)) → Says (acted_at b at (Deliver s)) z w
       upack-handed z eq ex h ew ez =
-          told z (ez ∙ ap (λ (x : Signal). commanded_said (Delivered x)) (sym ex)) (given-as (become-signal Linked ex (λ k. rw h refl)) (handed-upack b at s Linked (ew ∙ rw (eq, en, ex) refl) ex))
+          told z (ez ∙ ap (λ (x : Signal). commanded_said (Ok (Some x))) (sym ex)) (given-as (become-signal Linked ex (λ k. rw h refl)) (handed-upack b at s Linked (ew ∙ rw (eq, en, ex) refl) ex))
 
       pub downack-not : head ≡ Downack → state < 4 → Says (acted_at b at (Deliver s)) 17 b
       downack-not ex h = refused-signal ex (λ k. downack-taken s k state h)
 
-      pub downack-handed : (z : ℕ) {q : ℕ} {w : List ℕ} → q ≡ queue_place s → head ≡ Downack → 4 ≤ state → w ≡ popped_at (set b (at + n) 0) (at + q) → in_word z ≡ commanded_said (Delivered Downack) → Says (acted_at b at (Deliver s)) z w
+      pub downack-handed : (z : ℕ) {q : ℕ} {w : List ℕ} → q ≡ queue_place s → head ≡ Downack → 4 ≤ state → w ≡ popped_at (set b (at + n) 0) (at + q) → in_word z ≡ commanded_said (Ok (Some Downack)) → Says (acted_at b at (Deliver s)) z w
       downack-handed z eq ex h ew ez =
-          told z (ez ∙ ap (λ (x : Signal). commanded_said (Delivered x)) (sym ex)) (given-as (become-signal Idle ex (λ k. unlinking-from s k state h)) (handed-downack b at s Idle (ew ∙ rw (eq, en, ex) refl) ex))
+          told z (ez ∙ ap (λ (x : Signal). commanded_said (Ok (Some x))) (sym ex)) (given-as (become-signal Idle ex (λ k. unlinking-from s k state h)) (handed-downack b at s Idle (ew ∙ rw (eq, en, ex) refl) ex))
 
       module _ (ex : head ≡ Teardown) where
         pub teardown-refused : state < 3 → Says (acted_at b at (Deliver s)) 17 b
@@ -252,10 +251,10 @@ module _ (b : List ℕ) (at : ℕ) where
         no_room ef h g = told 17 refl (given-as (torn-replied h) (no-reply b at s (torn_from state) ex ef g))
 
         pub teardown-handed : (z : ℕ) {q f v : ℕ} {w y : List ℕ} → q ≡ queue_place s → f ≡ queue_place (other s) → 3 ≤ state → get_or b (at + f) 0 ≤ 15 → v ≡ cond (eqb state 3) 0 4
-            → w ≡ popped_at (set b (at + n) v) (at + q) → y ≡ put_at w (at + f) (10 ∷ 0 ∷ 0 ∷ []) → in_word z ≡ commanded_said (Delivered Teardown) → Says (acted_at b at (Deliver s)) z y
+            → w ≡ popped_at (set b (at + n) v) (at + q) → y ≡ put_at w (at + f) (10 ∷ 0 ∷ 0 ∷ []) → in_word z ≡ commanded_said (Ok (Some Teardown)) → Says (acted_at b at (Deliver s)) z y
         teardown-handed z {q} {f} {v} {w} eq ef h g ev ew ey ez =
             let given : w ≡ given_at b at s (torn_from state) head = ew ∙ rw (ev ∙ sym (torn-number state), eq, ex) (ap (λ (k : ℕ). popped_at (set b (at + k) (state_number (torn_from state))) (at + queue_place s)) en) in
-            told z (ez ∙ ap (λ (x : Signal). commanded_said (Delivered x)) (sym ex)) (given-as (torn-replied h) (handed-teardown b at s (torn_from state) given ex ef g (ey ∙ put-pushed w (at + f) Downack)))
+            told z (ez ∙ ap (λ (x : Signal). commanded_said (Ok (Some x))) (sym ex)) (given-as (torn-replied h) (handed-teardown b at s (torn_from state) given ex ef g (ey ∙ put-pushed w (at + f) Downack)))
 
       -- an ordinary signal
       module _ (m t code : ℕ) (ex : head ≡ Ordinary t (status_said m code)) where
@@ -273,11 +272,11 @@ module _ (b : List ℕ) (at : ℕ) where
             fits-as : (z : Bool) → fits_in t m next ≡ z → fits_with s false t (status_said m code) (channel_at t (end_of s c).channels) ≡ z
             fits-as z f = sym (fits_said s false t m code (channel_at t (end_of s c).channels) (en' ∙ rw its-channel refl)) ∙ f
 
-            taken_as : (z : Bool) (v : Verdict) → fits_in t m next ≡ z → cond z (become (state_said state)) (refuse BrokenRecord) ≡ v → takes s (end_of s c) head ≡ v
+            taken_as : (z : Bool) (v : Result State Refusal) → fits_in t m next ≡ z → cond z (Ok (state_said state)) (Err BrokenRecord) ≡ v → takes s (end_of s c) head ≡ v
             taken_as z v f e = rw (number, ex) (heard-from-linked s t (status_said m code) _ state h ∙ rw (o, fits-as z f) e)
 
             pub unfit : fits_in t m next ≡ false → Says (acted_at b at (Deliver s)) 17 b
-            unfit f = refused-by b at BrokenRecord 17 refl (deliver-refuse b at s BrokenRecord some (taken_as false (refuse BrokenRecord) f refl))
+            unfit f = refused-by b at BrokenRecord 17 refl (deliver-refuse b at s BrokenRecord some (taken_as false (Err BrokenRecord) f refl))
 
             pub ordinary-handed : (z : ℕ) {q v : ℕ} {w y r : List ℕ} → q ≡ queue_place s → fits_in t m next ≡ true → v ≡ cond (eqb state 3) 3 4 → w ≡ set b (at + n) v
                 → next ≡ next_in s false t m (get_or w (at + p) 0) → y ≡ cond (eqb t 0) w (set w (at + p) next) → r ≡ popped_at y (at + q)
@@ -287,10 +286,10 @@ module _ (b : List ℕ) (at : ℕ) where
                 let passes = passed-said w at s false t m code place ex' ey in
                 let settled : w ≡ settled_at b at s (state_said state) = ew ∙ rw (ev ∙ sym (number-from-linked state h)) (ap (λ (k : ℕ). set b (at + k) (state_number (state_said state))) en) in
                 let given : _ ≡ given_at b at s (state_said state) head = er ∙ rw (passes, settled, eq, ex) refl in
-                told z (ez ∙ numbers ∙ ap (λ (x : Signal). commanded_said (Delivered x)) (sym ex))
-                (given-as (deliver-become b at s (state_said state) some few (taken_as true (become (state_said state)) f refl)) (handed-ordinary b at s (state_said state) given ex))
+                told z (ez ∙ numbers ∙ ap (λ (x : Signal). commanded_said (Ok (Some x))) (sym ex))
+                (given-as (deliver-become b at s (state_said state) some few (taken_as true (Ok (state_said state)) f refl)) (handed-ordinary b at s (state_said state) given ex))
               where
-                numbers : handed_over m t (cond (eqb m 7) code (cond (eqb m 8) code 0)) ≡ commanded_said (Delivered (Ordinary t (status_said m code)))
+                numbers : handed_over m t (cond (eqb m 7) code (cond (eqb m 8) code 0)) ≡ commanded_said (Ok (Some (Ordinary t (status_said m code))))
                 numbers = ap (λ (l : List ℕ). handed_over (get_or l 0 0) (get_or l 1 0) (get_or l 2 0)) (sym (own-numbers m t code o))
 
 -- ---- which command it is

@@ -20,8 +20,10 @@ use Rattle.ends.specs.declared.End.{End}
 use Rattle.ends.specs.declared.Status.{Status}
 use Rattle.ends.specs.declared.Signal.{Signal}
 use Rattle.ends.specs.declared.Signal.TheVariants.{Upack, Ordinary, Teardown, Downack}
-use Rattle.ends.specs.declared.Verdict.{Verdict}
-use Rattle.ends.specs.declared.Verdict.TheVariants.{Refuse as refuse, Become as become}
+use Rattle.std.specs.Prelude.{Result, Ok, Err}
+use Rattle.refusal.specs.declared.Refusal.{Refusal}
+use Rattle.ends.specs.declared.State.{State}
+use Rattle.std.specs.Prelude.{Ok, Err}
 use Rattle.ends.specs.Ends.{opens, kind_of, channel_at, next_with, next_channel, fits_with, fits, forbidden, hears_with, takes_with}
 use Rattle.signalbytes.specs.Numbers.{state_number}
 use Rattle.signalbytes.proofs.Back.{state-back}
@@ -321,63 +323,63 @@ pops-reads (Deliver s) b at room = popped-reads b at room s
 -- ---- the step
 
 -- what is accepted has room
-broken : (v : Verdict) → Bool
-broken (refuse r) = true
-broken (become e) = false
+broken : (v : Result State Refusal) → Bool
+broken (Err r) = true
+broken (Ok e) = false
 
-fit-room : (v : Verdict) (n : ℕ) (st : State) → fit v n ≡ become st → n ≤ 16
+fit-room : (v : Result State Refusal) (n : ℕ) (st : State) → fit v n ≡ Ok st → n ≤ 16
 unfolding broken
-fit-room (refuse r) n st h = let x : true ≡ false = ap broken h in absurd (clash refl x)
-fit-room (become d) n st h = by (leb n 16) refl
+fit-room (Err r) n st h = let x : true ≡ false = ap broken h in absurd (clash refl x)
+fit-room (Ok d) n st h = by (leb n 16) refl
   where
     by : (t : Bool) → leb n 16 ≡ t → n ≤ 16
     by true f = leb-true n 16 f
     by false f =
-        let x : refuse BrokenRecord ≡ become st = ap (λ (t : Bool). cond t (become d) (refuse BrokenRecord)) (sym f) ∙ h in
+        let x : Err BrokenRecord ≡ Ok st = ap (λ (t : Bool). cond t (Ok d) (Err BrokenRecord)) (sym f) ∙ h in
         let y : true ≡ false = ap broken x in
         absurd (clash refl y)
 
 -- what is accepted was judged so
-judged-so : (c : Call) (k : Command) (st : State) → verdict c k ≡ become st → judged c k ≡ become st
+judged-so : (c : Call) (k : Command) (st : State) → verdict c k ≡ Ok st → judged c k ≡ Ok st
 unfolding broken
 judged-so c k st h = by (leb c.to_caller.count 16 && leb c.to_callee.count 16) refl
   where
-    by : (t : Bool) → (leb c.to_caller.count 16 && leb c.to_callee.count 16) ≡ t → judged c k ≡ become st
-    by true f = ap (λ (t : Bool). cond t (judged c k) (refuse BrokenRecord)) (sym f) ∙ h
+    by : (t : Bool) → (leb c.to_caller.count 16 && leb c.to_callee.count 16) ≡ t → judged c k ≡ Ok st
+    by true f = ap (λ (t : Bool). cond t (judged c k) (Err BrokenRecord)) (sym f) ∙ h
     by false f =
-        let x : refuse BrokenRecord ≡ become st = ap (λ (t : Bool). cond t (judged c k) (refuse BrokenRecord)) (sym f) ∙ h in
+        let x : Err BrokenRecord ≡ Ok st = ap (λ (t : Bool). cond t (judged c k) (Err BrokenRecord)) (sym f) ∙ h in
         let y : true ≡ false = ap broken x in
         absurd (clash refl y)
 
-verdict-room : (c : Call) (k : Command) (st : State) → verdict c k ≡ become st → (queue_to (other (actor k)) c).count + length (sends k (waiting (actor k) c)) ≤ 16
+verdict-room : (c : Call) (k : Command) (st : State) → verdict c k ≡ Ok st → (queue_to (other (actor k)) c).count + length (sends k (waiting (actor k) c)) ≤ 16
 verdict-room c k st h =
     fit-room (decide k (end_of (actor k) c) (waiting (actor k) c) (queue_to (other (actor k)) c).count) ((queue_to (other (actor k)) c).count + length (sends k (waiting (actor k) c))) st (judged-so c k st h)
 
-fit_same : (v : Verdict) (n : ℕ) (st : State) → fit v n ≡ become st → v ≡ become st
+fit_same : (v : Result State Refusal) (n : ℕ) (st : State) → fit v n ≡ Ok st → v ≡ Ok st
 unfolding broken
-fit_same (refuse r) n st h = h
-fit_same (become d) n st h = by (leb n 16) refl
+fit_same (Err r) n st h = h
+fit_same (Ok d) n st h = by (leb n 16) refl
   where
-    by : (t : Bool) → leb n 16 ≡ t → become d ≡ become st
-    by true f = ap (λ (t : Bool). cond t (become d) (refuse BrokenRecord)) (sym f) ∙ h
+    by : (t : Bool) → leb n 16 ≡ t → ◌≡◌ {A = Result State Refusal} (Ok d) (Ok st)
+    by true f = ap (λ (t : Bool). cond t (Ok d) (Err BrokenRecord)) (sym f) ∙ h
     by false f =
-        let x : refuse BrokenRecord ≡ become st = ap (λ (t : Bool). cond t (become d) (refuse BrokenRecord)) (sym f) ∙ h in
+        let x : Err BrokenRecord ≡ Ok st = ap (λ (t : Bool). cond t (Ok d) (Err BrokenRecord)) (sym f) ∙ h in
         let y : true ≡ false = ap broken x in
         absurd (clash refl y)
 
 -- and what was sent or taken then is fit for its channel
-chosen : {v : Verdict} (t : Bool) (r : Refusal) {st : State} → cond t v (refuse r) ≡ become st → (t ≡ true) × (v ≡ become st)
+chosen : {v : Result State Refusal} (t : Bool) (r : Refusal) {st : State} → cond t v (Err r) ≡ Ok st → (t ≡ true) × (v ≡ Ok st)
 unfolding broken
 chosen true r h = (refl, h)
 chosen false r h = let y : true ≡ false = ap broken h in absurd (clash refl y)
 
-speaks-fit : (s : Side) (e : End) (t : ℕ) (x : Status) (n : ℕ) (st : State) → speaks s e t x n ≡ become st → fits s true t x e.channels ≡ true
+speaks-fit : (s : Side) (e : End) (t : ℕ) (x : Status) (n : ℕ) (st : State) → speaks s e t x n ≡ Ok st → fits s true t x e.channels ≡ true
 speaks-fit s e t x n st h = (chosen (fits s true t x e.channels) (forbidden x) (chosen (is_ordinary t x) NotOrdinary (chosen (is_linked e.state) StateForbids h).1).1).0
 
-hears-fit : (now : State) (s : Side) (t : ℕ) (x : Status) (n : ℕ) (st : State) → hears_with now s t x n ≡ become st → fits_with s false t x n ≡ true
+hears-fit : (now : State) (s : Side) (t : ℕ) (x : Status) (n : ℕ) (st : State) → hears_with now s t x n ≡ Ok st → fits_with s false t x n ≡ true
 hears-fit now s t x n st h = (chosen (fits_with s false t x n) BrokenRecord (chosen (is_ordinary t x) BrokenRecord h).1).0
 
-takes-fit : (now : State) (s : Side) (t : ℕ) (x : Status) (n : ℕ) (st : State) → takes_with now s (Ordinary t x) n ≡ become st → fits_with s false t x n ≡ true
+takes-fit : (now : State) (s : Side) (t : ℕ) (x : Status) (n : ℕ) (st : State) → takes_with now s (Ordinary t x) n ≡ Ok st → fits_with s false t x n ≡ true
 unfolding broken
 takes-fit Idle s t x n st h = let y : true ≡ false = ap broken h in absurd (clash refl y)
 takes-fit Requesting s t x n st h = let y : true ≡ false = ap broken h in absurd (clash refl y)
@@ -386,7 +388,7 @@ takes-fit Linked s t x n st h = hears-fit Linked s t x n st h
 takes-fit Unlinking s t x n st h = hears-fit Unlinking s t x n st h
 
 -- what an accepted command leaves of the channels: b is the bytes with the state written, whose record has the channels of c
-channels-read : (k : Command) (b : List ℕ) (at : ℕ) (w : List Signal) (e : End) (n : ℕ) (st : State) → at + 614 ≤ length b → (end_of (actor k) (call_at b at)).channels ≡ e.channels → decide k e w n ≡ become st
+channels-read : (k : Command) (b : List ℕ) (at : ℕ) (w : List Signal) (e : End) (n : ℕ) (st : State) → at + 614 ≤ length b → (end_of (actor k) (call_at b at)).channels ≡ e.channels → decide k e w n ≡ Ok st
     → call_at (channels_at k w b at) at ≡ with_channels (actor k) (channels_by k w (end_of (actor k) (call_at b at)).channels) (call_at b at)
 channels-read Accept b at w e n st room same h = refl
 channels-read Busy b at w e n st room same h = refl
@@ -453,8 +455,8 @@ module _ (b : List ℕ) (at : ℕ) (k : Command) (room : at + 614 ≤ length b) 
     unfolding taken
     taken-length = pops_length k passed_on (at + queue_place s) ∙ passed-on-length
 
-    module _ (h : verdict c k ≡ become st) where
-      decided : decide k (end_of s c) w (queue_to (other s) c).count ≡ become st
+    module _ (h : verdict c k ≡ Ok st) where
+      decided : decide k (end_of s c) w (queue_to (other s) c).count ≡ Ok st
       decided = fit_same (decide k (end_of s c) w (queue_to (other s) c).count) ((queue_to (other s) c).count + length (sends k w)) st (judged-so c k st h)
 
       settled_is : call_at settled at ≡ with_end s (within st (end_of s c).channels) c
@@ -481,10 +483,10 @@ module _ (b : List ℕ) (at : ℕ) (k : Command) (room : at + 614 ≤ length b) 
       back : queue_to (other s) (call_at taken at) ≡ queue_to (other s) c
       back = ap (queue_to (other s)) taken-reads ∙ other-queue s (pops k (queue_to s c)) (with_end s e c) ∙ of_end s (other s) e c
 
-  reads : (v : Verdict) → verdict c k ≡ v → ((outcome_at b at k v).answer ≡ (outcome c k v).answer) × (call_at (outcome_at b at k v).bytes at ≡ (outcome c k v).call)
+  reads : (v : Result State Refusal) → verdict c k ≡ v → ((outcome_at b at k v).answer ≡ (outcome c k v).answer) × (call_at (outcome_at b at k v).bytes at ≡ (outcome c k v).call)
   unfolding taken passed_on settled
-  reads (refuse r) h = (refl, refl)
-  reads (become st) h =
+  reads (Err r) h = (refl, refl)
+  reads (Ok st) h =
       let xs : List Signal = sends k w in
       let count : (queue_to (other s) (call_at (taken st) at)).count ≡ (queue_to (other s) c).count = ap (λ (q : Queue). q.count) (back st h) in
       let few : (queue_to (other s) c).count + length xs ≤ 16 = verdict-room c k st h in (
@@ -529,7 +531,7 @@ passed-outside b at s sends t x j f o = by (eqb t 0) refl
         let long : length (end_of s (call_at b at)).channels ≡ 256 = ap length (sym (channels-from s b at)) ∙ bytes-length 256 b (at + channel_place s) in
         rw e (stored-outside b at s t _ j (there s sends t x (end_of s (call_at b at)).channels long e f) o)
 
-channels-outside : (k : Command) (b : List ℕ) (at : ℕ) (w : List Signal) (e : End) (n : ℕ) (st : State) (j : ℕ) → (end_of (actor k) (call_at b at)).channels ≡ e.channels → decide k e w n ≡ become st → Outside at j
+channels-outside : (k : Command) (b : List ℕ) (at : ℕ) (w : List Signal) (e : End) (n : ℕ) (st : State) (j : ℕ) → (end_of (actor k) (call_at b at)).channels ≡ e.channels → decide k e w n ≡ Ok st → Outside at j
     → get_or (channels_at k w b at) j 0 ≡ get_or b j 0
 channels-outside Accept b at w e n st j same h o = refl
 channels-outside Busy b at w e n st j same h o = refl
@@ -564,10 +566,10 @@ module _ (at : ℕ) (j : ℕ) where
       pushes-outside xs s (pushed_at b q x) (omega (arith, room, pushed-length b q x)) (omega (arith, few, count)) o ∙ pushed-outside s b x (omega (arith, few)) o
 
 module _ (b : List ℕ) (at : ℕ) (k : Command) (room : at + 614 ≤ length b) where
-  outside : (v : Verdict) → verdict (call_at b at) k ≡ v → (length (outcome_at b at k v).bytes ≡ length b) × ((j : ℕ) → Outside at j → get_or (outcome_at b at k v).bytes j 0 ≡ get_or b j 0)
+  outside : (v : Result State Refusal) → verdict (call_at b at) k ≡ v → (length (outcome_at b at k v).bytes ≡ length b) × ((j : ℕ) → Outside at j → get_or (outcome_at b at k v).bytes j 0 ≡ get_or b j 0)
   unfolding taken passed_on settled
-  outside (refuse r) h = (refl, λ j o. refl)
-  outside (become st) h =
+  outside (Err r) h = (refl, λ j o. refl)
+  outside (Ok st) h =
       let t : Side = actor k in
       let x : List ℕ = taken b at k room st in
       let on : List ℕ = passed_on b at k room st in

@@ -15,7 +15,7 @@ use Rattle.ends.specs.declared.State.TheVariants.{Idle, Requesting, Waiting, Lin
 use Rattle.ends.specs.declared.Status.{Status}
 use Rattle.ends.specs.declared.Signal.{Signal}
 use Rattle.ends.specs.declared.Signal.TheVariants.{Upack, Ordinary, Teardown, Downack}
-use Rattle.ends.specs.declared.Verdict.TheVariants.{Refuse as refuse, Become as become}
+use Rattle.std.specs.Prelude.{Ok, Err}
 use Rattle.ends.specs.declared.Side.{Side}
 use Rattle.ends.specs.declared.Side.TheVariants.{Caller, Callee}
 use Rattle.ends.specs.Ends.{is_waiting, is_linked, is_ordinary, is_open, kind_of, no_channel_signal, next_with, fits_with, hears_with, takes_with}
@@ -72,29 +72,29 @@ from-linked P p q n h = by (eqb n 3) refl
 
 -- ---- what an end does with a signal handed to it, by the number of its state
 
-pub upack-taken : (s : Side) (k : ℕ) (n : ℕ) → n ≢ 1 → takes_with (state_said n) s Upack k ≡ refuse BrokenRecord
+pub upack-taken : (s : Side) (k : ℕ) (n : ℕ) → n ≢ 1 → takes_with (state_said n) s Upack k ≡ Err BrokenRecord
 upack-taken s k n h = rw (ne_eqb n 1 h) (none (eqb n 0) (eqb n 2) (eqb n 3))
   where
-    none : (a b d : Bool) → takes_with (cond a Idle (cond b Waiting (cond d Linked Unlinking))) s Upack k ≡ refuse BrokenRecord
+    none : (a b d : Bool) → takes_with (cond a Idle (cond b Waiting (cond d Linked Unlinking))) s Upack k ≡ Err BrokenRecord
     none true b d = refl
     none false true d = refl
     none false false true = refl
     none false false false = refl
 
-pub downack-taken : (s : Side) (k : ℕ) (n : ℕ) → n < 4 → takes_with (state_said n) s Downack k ≡ refuse BrokenRecord
+pub downack-taken : (s : Side) (k : ℕ) (n : ℕ) → n < 4 → takes_with (state_said n) s Downack k ≡ Err BrokenRecord
 downack-taken s k zero h = refl
 downack-taken s k (suc zero) h = refl
 downack-taken s k (suc (suc zero)) h = refl
 downack-taken s k (suc (suc (suc zero))) h = refl
 downack-taken s k (suc (suc (suc (suc n)))) h = absurd (omega (arith, h))
 
-pub teardown-taken : (s : Side) (k : ℕ) (n : ℕ) → n < 3 → takes_with (state_said n) s Teardown k ≡ refuse BrokenRecord
+pub teardown-taken : (s : Side) (k : ℕ) (n : ℕ) → n < 3 → takes_with (state_said n) s Teardown k ≡ Err BrokenRecord
 teardown-taken s k zero h = refl
 teardown-taken s k (suc zero) h = refl
 teardown-taken s k (suc (suc zero)) h = refl
 teardown-taken s k (suc (suc (suc n))) h = absurd (omega (arith, h))
 
-pub ordinary-taken : (s : Side) (t : ℕ) (x : Status) (k : ℕ) (n : ℕ) → n < 3 → takes_with (state_said n) s (Ordinary t x) k ≡ refuse BrokenRecord
+pub ordinary-taken : (s : Side) (t : ℕ) (x : Status) (k : ℕ) (n : ℕ) → n < 3 → takes_with (state_said n) s (Ordinary t x) k ≡ Err BrokenRecord
 ordinary-taken s t x k zero h = refl
 ordinary-taken s t x k (suc zero) h = refl
 ordinary-taken s t x k (suc (suc zero)) h = refl
@@ -110,8 +110,8 @@ number-from-linked = from-linked (λ n st. state_number st ≡ cond (eqb n 3) 3 
 abbrev pub torn_from : ℕ → State
 torn_from n = cond (eqb n 3) Idle Unlinking
 
-pub torn-from-linked : (s : Side) (k : ℕ) (n : ℕ) → 3 ≤ n → takes_with (state_said n) s Teardown k ≡ become (torn_from n)
-torn-from-linked s k = from-linked (λ n st. takes_with st s Teardown k ≡ become (torn_from n)) refl (λ n e. rw e refl)
+pub torn-from-linked : (s : Side) (k : ℕ) (n : ℕ) → 3 ≤ n → takes_with (state_said n) s Teardown k ≡ Ok (torn_from n)
+torn-from-linked s k = from-linked (λ n st. takes_with st s Teardown k ≡ Ok (torn_from n)) refl (λ n e. rw e refl)
 
 pub torn-number : (n : ℕ) → state_number (torn_from n) ≡ cond (eqb n 3) 0 4
 torn-number n = by (eqb n 3)
@@ -120,7 +120,7 @@ torn-number n = by (eqb n 3)
     by true = refl
     by false = refl
 
-pub unlinking-from : (s : Side) (k : ℕ) (n : ℕ) → 4 ≤ n → takes_with (state_said n) s Downack k ≡ become Idle
+pub unlinking-from : (s : Side) (k : ℕ) (n : ℕ) → 4 ≤ n → takes_with (state_said n) s Downack k ≡ Ok Idle
 unlinking-from s k n h = rw (unlinking-said n h) refl
 
 -- ---- signals

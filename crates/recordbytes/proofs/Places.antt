@@ -5,12 +5,12 @@ use Prim.Native.Nat.{ℕ, zero, suc, ◌+◌, ◌*◌, ◌-◌, ◌≤◌, ◌<�
 use native.Mathlib.Nat.{le_of_suc-le-suc, not-suc-le-zero}
 use native.Mathlib.Omega.{arith}
 use lib.ListN.{length, get_or, set, take, drop, length-set, length-drop, length-append, get_or-append}
-use lib.Seq.{sets, drop-cons, drop-set-lt, length-take-le, length-sets, get_or-set_same, get_or-set_other, get_or-take, get_or-drop, get_or-append-add, lt-length-sets}
+use Rattle.std.specs.List.{copy_within}
+use lib.Seq.{sets, sets-eq, length-take-le, length-sets, get_or-set_same, get_or-set_other, get_or-take, get_or-drop, get_or-append-add, lt-length-sets}
 use Rattle.planwrite.proofs.Puts.{puts_then}
 use Rattle.signalbytes.specs.Numbers.{signal_number}
 use Rattle.signalbytes.proofs.Back.{signal-back}
 use Rattle.ends.specs.declared.Signal.{Signal}
-use Rattle.call.specs.declared.Slot.{Slot}
 use Rattle.call.specs.Protocol as protocol
 use Rattle.call.specs.Protocol.{slot, blank, push, pop}
 use Rattle.recordbytes.specs.Records.{slot_at, slots_from, queue_at, bytes_from}
@@ -57,26 +57,12 @@ slots_same (suc n) b d at to h =
         let q : to + 3 + j ≡ to + (3 + j) = omega arith in
         rw (p, q) (h (3 + j) l)
 
--- ---- a loop that moves bytes down by three: the next one
-
-pub moved-next : (row : List ℕ) (at i : ℕ) → i < 45 → at + 48 ≤ length row
-    → sets row (at + i) (take (45 - i) (drop (at + i + 3) row))
-    ≡ sets (set row (at + i) (get_or row (at + i + 3) 0)) (at + (i + 1)) (take (45 - (i + 1)) (drop (at + (i + 1) + 3) (set row (at + i) (get_or row (at + i + 3) 0))))
-moved-next row at i h f =
-    let v : ℕ = get_or row (at + i + 3) 0 in
-    let e : 45 - i ≡ suc (45 - (i + 1)) = omega arith in
-    let s : at + (i + 1) ≡ suc (at + i) = omega arith in
-    let d : suc (at + i) + 3 ≡ suc (at + i + 3) = omega arith in
-    let in_row : at + i + 3 < length row = omega arith in
-    let below : at + i < suc (at + i + 3) = omega arith in
-    rw (e, s, d, drop-set-lt (suc (at + i + 3)) row (at + i) v below)
-    (ap (λ (z : List ℕ). sets row (at + i) (take (suc (45 - (i + 1))) z)) (drop-cons row (at + i + 3) 0 in_row))
-
-pub moved-start : (row : List ℕ) (at : ℕ) → sets row (at + 0) (take (45 - 0) (drop (at + 0 + 3) row)) ≡ sets row at (take 45 (drop (at + 3) row))
-moved-start row at = let e : at + 0 ≡ at = omega arith in rw e
-
-pub moved-end : (row : List ℕ) (at i to : ℕ) → 45 ≤ i → sets row at (take (45 - i) (drop to row)) ≡ row
-moved-end row at i to h = let e : 45 - i ≡ 0 = omega arith in rw e
+-- ---- 45 bytes moved down by three
+pub moved_down : (row : List ℕ) (at : ℕ) → at + 48 ≤ length row → copy_within row (at + 3) (at + 48) at ≡ sets row at (take 45 (drop (at + 3) row))
+moved_down row at h =
+    let n : length (take 45 (drop (at + 3) row)) ≡ 45 = length-take-le 45 (drop (at + 3) row) (simp length-drop (omega arith)) in
+    let k : at + 48 - (at + 3) ≡ 45 = omega arith in
+    rw k (rw n at (sym (sets-eq (take 45 (drop (at + 3) row)) row at (rw n (omega arith)))))
 
 pub put_three : (room : List ℕ) (at a b c : ℕ) → set (set (set room at a) (at + 1) b) (at + 2) c ≡ sets room at (a ∷ b ∷ c ∷ [])
 put_three room at a b c =
@@ -112,7 +98,7 @@ unfolding slots_from
 slots-last zero b at = let e : at + 3 * 0 ≡ at = omega arith in rw e
 slots-last (suc n) b at =
     let e : at + 3 * suc n ≡ at + 3 + 3 * n = omega arith in
-    rw e (ap (λ (z : List Slot). slot_at b at ∷ z) (slots-last n b (at + 3)))
+    rw e (ap (λ (z : List Signal). slot_at b at ∷ z) (slots-last n b (at + 3)))
 
 -- a queue of the same bytes, at another place or at its own
 pub queue-moved : (b d : List ℕ) (q p : ℕ) → ((j : ℕ) → j < 49 → get_or b (q + j) 0 ≡ get_or d (p + j) 0) → queue_at b q ≡ queue_at d p
@@ -132,7 +118,7 @@ pub queue-same : (b d : List ℕ) (q : ℕ) → ((j : ℕ) → j < 49 → get_or
 queue-same b d q h = queue-moved b d q q h
 
 -- the places of which one has other bytes
-slots-put : (m : ℕ) (b d : List ℕ) (at n : ℕ) (x : Slot) → n < m → ((j : ℕ) → j < 3 * n → get_or d (at + j) 0 ≡ get_or b (at + j) 0)
+slots-put : (m : ℕ) (b d : List ℕ) (at n : ℕ) (x : Signal) → n < m → ((j : ℕ) → j < 3 * n → get_or d (at + j) 0 ≡ get_or b (at + j) 0)
     → ((j : ℕ) → 3 * n + 3 ≤ j → j < 3 * m → get_or d (at + j) 0 ≡ get_or b (at + j) 0) → slot_at d (at + 3 * n) ≡ x → slots_from m d at ≡ set (slots_from m b at) n x
 unfolding slots_from
 slots-put zero b d at n x h lower upper e = absurd (not-suc-le-zero h)
@@ -216,7 +202,7 @@ module _ (b : List ℕ) (q : ℕ) where
     pub pushed-queue : (x : Signal) → n < 16 → queue_at (pushed_at b q x) q ≡ push (queue_at b q) x
     unfolding pushed_at
     pushed-queue x few =
-        rw (pushed-count x, slots-put 16 b (pushed_at b q x) (q + 1) n (record { signal = x }) few (λ j l. lower j l) (λ j l k. upper j l) here) refl
+        rw (pushed-count x, slots-put 16 b (pushed_at b q x) (q + 1) n x few (λ j l. lower j l) (λ j l k. upper j l) here) refl
       where
         at : ℕ
         at = q + 1 + 3 * n
@@ -236,7 +222,7 @@ module _ (b : List ℕ) (q : ℕ) where
             ap (λ (k : ℕ). get_or (pushed_at b q x) k 0) e ∙ off (3 * n + i) ∙ ap (λ (k : ℕ). get_or (sets b (q + 1 + 3 * n) (signal_bytes x)) k 0) (sym e)
             ∙ within (signal_bytes x) b (q + 1 + 3 * n) i l (omega (arith, few))
 
-        here : slot_at (pushed_at b q x) (q + 1 + 3 * n) ≡ record { signal = x }
+        here : slot_at (pushed_at b q x) (q + 1 + 3 * n) ≡ x
         here =
             let none : q + 1 + 3 * n + 0 ≡ q + 1 + 3 * n = omega arith in
             let e0 : get_or (pushed_at b q x) (q + 1 + 3 * n) 0 ≡ signal_number x = ap (λ (k : ℕ). get_or (pushed_at b q x) k 0) (sym none) ∙ byte 0 (omega arith) in
@@ -308,5 +294,5 @@ module _ (b : List ℕ) (q : ℕ) where
 
         slots : slots_from 16 (popped_at b q) (q + 1) ≡ protocol.slots_from 15 1 (slots_from 16 b (q + 1)) ++ blank ∷ []
         slots =
-            last ∙ ap (λ (z : Slot). slots_from 15 (popped_at b q) (q + 1) ++ z ∷ []) blank-last
-            ∙ ap (λ (z : List Slot). z ++ blank ∷ []) (slots_same 15 (popped_at b q) b (q + 1) (q + 1 + 3) (λ j l. moved-byte j (omega (arith, l))) ∙ sym later)
+            last ∙ ap (λ (z : Signal). slots_from 15 (popped_at b q) (q + 1) ++ z ∷ []) blank-last
+            ∙ ap (λ (z : List Signal). z ++ blank ∷ []) (slots_same 15 (popped_at b q) b (q + 1) (q + 1 + 3) (λ j l. moved-byte j (omega (arith, l))) ∙ sym later)

@@ -6,8 +6,8 @@ use Rattle.ends.specs.declared.Side.TheVariants.{Caller, Callee}
 use Rattle.signalbytes.specs.Numbers.{no_signal, status_said, signal_number, signal_tunnel, signal_code}
 use Rattle.call.specs.declared.Command.{Command}
 use Rattle.call.specs.declared.Command.TheVariants.{Accept, Busy, Unobtainable, Send, Teardown, Deliver}
-use Rattle.call.specs.declared.Answer.{Answer}
-use Rattle.call.specs.declared.Answer.TheVariants.{Accepted, Delivered, Refused}
+use Rattle.call.specs.Protocol.{Answer}
+use Rattle.std.specs.Prelude.{Some, None, Ok, Err}
 use Rattle.call.specs.Row.{Reply, placed_at, says}
 use Rattle.recordbytes.specs.declared.Commanded.{Commanded}
 
@@ -26,14 +26,14 @@ command_of kind side signal tunnel code =
 
 -- number 0, and 1 and the signal where one was handed over; or the refusal's number, and zeros
 abbrev pub commanded_said : Answer → Commanded
-commanded_said Accepted = record { number = 0; delivered = 0; signal = 0; tunnel = 0; code = 0 }
-commanded_said (Delivered x) = record { number = 0; delivered = 1; signal = signal_number x; tunnel = signal_tunnel x; code = signal_code x }
-commanded_said (Refused r) = record { number = number_of r; delivered = 0; signal = 0; tunnel = 0; code = 0 }
+commanded_said (Ok None) = record { number = 0; delivered = 0; signal = 0; tunnel = 0; code = 0 }
+commanded_said (Ok (Some x)) = record { number = 0; delivered = 1; signal = signal_number x; tunnel = signal_tunnel x; code = signal_code x }
+commanded_said (Err r) = record { number = number_of r; delivered = 0; signal = 0; tunnel = 0; code = 0 }
 
 -- a command is never answered by a placing
 abbrev pub reply_said : Reply → Commanded
 reply_said (says a) = commanded_said a
-reply_said (placed_at r n) = commanded_said Accepted
+reply_said (placed_at r n) = commanded_said (Ok None)
 
 -- AN ANSWER IN ONE WORD, which is faster than five: a byte for each number, from the lowest on
 abbrev pub in_word : ℕ → Commanded

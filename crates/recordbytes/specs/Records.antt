@@ -3,7 +3,7 @@
 use Rattle.std.specs.Prelude.{ℕ, zero, suc, ◌+◌, ◌*◌, List, [], ◌∷◌, get_or}
 use Rattle.ends.specs.declared.End.{End}
 use Rattle.signalbytes.specs.Numbers.{state_said, signal_said}
-use Rattle.call.specs.declared.Slot.{Slot}
+use Rattle.ends.specs.declared.Signal.{Signal}
 use Rattle.call.specs.declared.Queue.{Queue}
 use Rattle.ends.specs.declared.Side.{Side}
 use Rattle.ends.specs.declared.Side.TheVariants.{Caller, Callee}
@@ -24,11 +24,11 @@ channel_place Caller = 102
 channel_place Callee = 358
 
 -- the signal of a place
-abbrev pub slot_at : List ℕ → ℕ → Slot
-slot_at b at = record { signal = signal_said (get_or b at 0) (get_or b (at + 1) 0) (get_or b (at + 2) 0) }
+abbrev pub slot_at : List ℕ → ℕ → Signal
+slot_at b at = signal_said (get_or b at 0) (get_or b (at + 1) 0) (get_or b (at + 2) 0)
 
 -- n places, one after the other
-unfoldable pub slots_from : ℕ → List ℕ → ℕ → List Slot
+unfoldable pub slots_from : ℕ → List ℕ → ℕ → List Signal
 slots_from zero b at = []
 slots_from (suc n) b at = slot_at b at ∷ slots_from n b (at + 3)
 

@@ -8,15 +8,17 @@ use Rattle.ends.specs.declared.State.{State}
 use Rattle.ends.specs.declared.Status.{Status}
 use Rattle.ends.specs.declared.Signal.{Signal}
 use Rattle.ends.specs.declared.Signal.TheVariants.{Upack, Ordinary, Teardown, Downack}
-use Rattle.ends.specs.declared.Verdict.{Verdict}
-use Rattle.ends.specs.declared.Verdict.TheVariants.{Refuse as refuse, Become as become}
+use Rattle.std.specs.Prelude.{Result, Ok, Err}
+use Rattle.refusal.specs.declared.Refusal.{Refusal}
+use Rattle.ends.specs.declared.State.{State}
+use Rattle.std.specs.Prelude.{Ok, Err}
 use Rattle.ends.specs.Ends.{next_with}
 use Rattle.signalbytes.specs.Numbers.{state_number, signal_number, signal_tunnel, signal_code}
 use Rattle.ends.specs.declared.Side.{Side}
 use Rattle.call.specs.declared.Command.{Command}
 use Rattle.call.specs.declared.Command.TheVariants.{Accept, Busy, Unobtainable, Send, Teardown as Hang-up, Deliver}
-use Rattle.call.specs.declared.Answer.{Answer}
-use Rattle.call.specs.declared.Answer.TheVariants.{Refused}
+use Rattle.call.specs.Protocol.{Answer}
+use Rattle.std.specs.Prelude.{Ok, Err}
 use Rattle.call.specs.Protocol.{actor, other, waiting, sends, hands, verdict, step}
 use Rattle.recordbytes.specs.Records.{state_place, queue_place, channel_place, call_at}
 
@@ -26,7 +28,7 @@ pub record Stepped : Type 0 where
 
 -- a refusal leaves every byte
 abbrev pub refusing_at : List ℕ → Refusal → Stepped
-refusing_at b r = record { answer = Refused r; bytes = b }
+refusing_at b r = record { answer = Err r; bytes = b }
 
 -- THE FOUR CHANGES
 -- a side's end goes on: the number of its state
@@ -76,9 +78,9 @@ pops_at (Hang-up e) b q = b
 pops_at (Deliver e) b q = popped_at b q
 
 -- THE STEP, by the verdict: as `outcome` says it of the record
-abbrev pub outcome_at : List ℕ → ℕ → Command → Verdict → Stepped
-outcome_at b at k (refuse r) = refusing_at b r
-outcome_at b at k (become st) =
+abbrev pub outcome_at : List ℕ → ℕ → Command → Result State Refusal → Stepped
+outcome_at b at k (Err r) = refusing_at b r
+outcome_at b at k (Ok st) =
     record {
       answer = hands k (waiting (actor k) (call_at b at));
       bytes =

@@ -1,5 +1,6 @@
 // A command on a call record in lent bytes, for programs in other languages (01 'Calls'). It is decided by few bytes of the record: the two counts, the acting end's state, the head of the queue towards it, one channel. What is accepted
 // changes the record where it stands, and only the bytes that it must; a refusal changes none. Commands, sides, states and signals are the numbers that C and the bytes have, and a part answers one word: enums and structs would go through memory at each call.
+// So row, place and side go as they are too, and each part requires that the 614 bytes are there: a struct of them would be handed through memory. A command's five numbers come as C gives them.
 #![tactic(auto)]
 
 ghost use Rattle.std.specs.Prelude.{◌≡◌, not, cond, [], ◌∷◌, ◌+◌, ◌*◌, ◌≤◌, ◌<◌, eqb, length, get_or, set, take, drop};
@@ -13,7 +14,7 @@ ghost use Rattle.call.specs.Protocol.{other, state_of, queue_to, slot};
 ghost use Rattle.recordbytes.specs.Records.{state_place, queue_place, channel_place, call_at};
 ghost use Rattle.recordbytes.specs.Steps.{popped_at, step_at, command_at};
 ghost use Rattle.recordbytes.specs.Numbers.{side_of, command_of, commanded_said, in_word};
-ghost use Rattle.recordbytes.specs.Parts.{handed_over, put_at, acted_at, three_sent_at, next_in, fits_in};
+ghost use Rattle.recordbytes.specs.Parts.{Says, Due, handed_over, put_at, acted_at, three_sent_at, next_in, fits_in};
 
 // An answer: number 0, and 1 and the signal where one was handed over; or the refusal's number, and zeros.
 #[repr(C)]
@@ -55,17 +56,11 @@ fn channel_place(side: u8) -> usize
     if side == 0 { 102 } else { 358 }
 }
 
-fn wide(n: u8) -> usize
-    ensures { (result ≡ n) × (result < 256) }
-{
-    n as usize
-}
-
 // Where the channel of a tunnel stands.
 fn tunnel_place(side: u8, tunnel: u8) -> usize
     ensures { (result ≡ channel_place (side_of side) + tunnel) × (result ≤ 613) × (tunnel < 256) }
 {
-    channel_place(side) + wide(tunnel)
+    channel_place(side) + usize::from(tunnel)
 }
 
 // ---- signals by their numbers
@@ -74,87 +69,38 @@ fn tunnel_place(side: u8, tunnel: u8) -> usize
 fn is_ordinary(signal: u8, tunnel: u8, code: u8) -> bool
     ensures { result ≡ is_ordinary tunnel (status_said signal code) }
 {
-    if signal == 3 {
-        return tunnel == 0;
+    match signal {
+        3 | 4 | 5 | 6 => tunnel == 0,
+        7 => 0 < tunnel && code < 12,
+        8 | 11 | 12 | 13 | 14 | 15 | 16 => true,
+        _ => false,
     }
-    if signal == 4 {
-        return tunnel == 0;
-    }
-    if signal == 5 {
-        return tunnel == 0;
-    }
-    if signal == 6 {
-        return tunnel == 0;
-    }
-    if signal == 7 {
-        if 0 < tunnel {
-            return code < 12;
-        }
-        return false;
-    }
-    if signal == 8 {
-        return true;
-    }
-    if signal == 11 {
-        return true;
-    }
-    if signal == 12 {
-        return true;
-    }
-    if signal == 13 {
-        return true;
-    }
-    if signal == 14 {
-        return true;
-    }
-    if signal == 15 {
-        return true;
-    }
-    signal == 16
 }
 
 // What a signal is to a channel: open to closeack are 0 to 5, a status of a channel is 6, one of tunnel 0 is 7.
 fn channel_kind(signal: u8) -> u8
     ensures { result ≡ kind_of (status_said signal 0) }
 {
-    if signal == 3 {
-        return 7;
+    match signal {
+        11 => 0,
+        12 => 1,
+        13 => 2,
+        14 => 3,
+        15 => 4,
+        16 => 5,
+        3 | 4 | 5 | 6 => 7,
+        _ => 6,
     }
-    if signal == 4 {
-        return 7;
-    }
-    if signal == 5 {
-        return 7;
-    }
-    if signal == 6 {
-        return 7;
-    }
-    if signal == 11 {
-        return 0;
-    }
-    if signal == 12 {
-        return 1;
-    }
-    if signal == 13 {
-        return 2;
-    }
-    if signal == 14 {
-        return 3;
-    }
-    if signal == 15 {
-        return 4;
-    }
-    if signal == 16 { 5 } else { 6 }
 }
 
 // Only dtmf and special have a code.
 fn kept_code(signal: u8, code: u8) -> u8
     ensures { result ≡ cond (eqb signal 7) code (cond (eqb signal 8) code 0) }
 {
-    if signal == 7 {
-        return code;
+    match signal {
+        7 | 8 => code,
+        _ => 0,
     }
-    if signal == 8 { code } else { 0 }
 }
 
 // The caller opens odd tunnels, the callee even ones.
@@ -204,7 +150,7 @@ fn push(row: &mut [u8], q: usize, signal: u8, tunnel: u8, code: u8)
     ensures { row.new ≡ put_at row.old q (signal ∷ tunnel ∷ code ∷ []) }
 {
     let n = row[q];
-    let at = q + 1 + 3 * (n as usize);
+    let at = q + 1 + 3 * usize::from(n);
     row[at] = signal;
     row[at + 1] = tunnel;
     row[at + 2] = code;
@@ -216,9 +162,7 @@ fn move_down(row: &mut [u8], at: usize)
     requires { at + 48 ≤ length row.old }
     ensures { row.new ≡ sets row.old at (take 45 (drop (at + 3) row.old)) }
 {
-    for i in 0usize..45usize {
-        row[at + i] = row[at + i + 3];
-    }
+    row.copy_within(at + 3..at + 48, at);
 }
 
 // The queue that begins at q without its head: the others one place down, and the last place blank, so that no signal that was handed over stays.
@@ -240,7 +184,7 @@ fn pop(row: &mut [u8], q: usize)
 fn handed(signal: u8, tunnel: u8, code: u8) -> u64
     ensures { in_word result ≡ handed_over signal tunnel code }
 {
-    256 + 65536 * (signal as u64) + 16777216 * (tunnel as u64) + 4294967296 * (code as u64)
+    256 + 65536 * u64::from(signal) + 16777216 * u64::from(tunnel) + 4294967296 * u64::from(code)
 }
 
 // The numbers of a word.
@@ -261,7 +205,7 @@ pub fn answer_in(word: u64) -> Commanded
 // A waiting callee answers: it is linked, and sends upack.
 fn accept(row: &mut [u8], at: usize) -> u64
     requires { at + 614 ≤ length row.old }
-    ensures { (in_word result ≡ commanded_said (acted_at row.old at Accept).answer) × (row.new ≡ (acted_at row.old at Accept).bytes) }
+    ensures { Says (acted_at row.old at Accept) result row.new }
 {
     if row[at + 1] != 2 {
         return 12;
@@ -278,8 +222,7 @@ fn accept(row: &mut [u8], at: usize) -> u64
 #[tactic(auto, using(crate::proofs::Acts::three_cases))]
 fn three_sent(row: &mut [u8], at: usize, status: u8) -> u64
     requires { (at + 614 ≤ length row.old) × (status_number (status_said status 0) ≡ status) × (status_code (status_said status 0) ≡ 0) }
-    ensures { (in_word result ≡ commanded_said (three_sent_at row.old at (answers (state_said (get_or row.old (at + 1) 0)) Unlinking) (status_said status 0)).answer)
-        × (row.new ≡ (three_sent_at row.old at (answers (state_said (get_or row.old (at + 1) 0)) Unlinking) (status_said status 0)).bytes) }
+    ensures { Says (three_sent_at row.old at (answers (state_said (get_or row.old (at + 1) 0)) Unlinking) (status_said status 0)) result row.new }
 {
     if row[at + 1] != 2 {
         return 12;
@@ -297,7 +240,7 @@ fn three_sent(row: &mut [u8], at: usize, status: u8) -> u64
 // A linked end sends teardown, and is unlinking.
 fn teardown(row: &mut [u8], at: usize, side: u8) -> u64
     requires { at + 614 ≤ length row.old }
-    ensures { (in_word result ≡ commanded_said (acted_at row.old at (Hang-up (side_of side))).answer) × (row.new ≡ (acted_at row.old at (Hang-up (side_of side))).bytes) }
+    ensures { Says (acted_at row.old at (Hang-up (side_of side))) result row.new }
 {
     let n = state_place(side);
     if row[at + n] != 3 {
@@ -322,21 +265,18 @@ fn forbidden(signal: u8) -> u64
 // A linked end sends an ordinary signal.
 fn send(row: &mut [u8], at: usize, side: u8, signal: u8, tunnel: u8, code: u8) -> u64
     requires { at + 614 ≤ length row.old }
-    ensures { (in_word result ≡ commanded_said (acted_at row.old at (Send (side_of side) tunnel (status_said signal code))).answer)
-        × (row.new ≡ (acted_at row.old at (Send (side_of side) tunnel (status_said signal code))).bytes) }
+    ensures { Says (acted_at row.old at (Send (side_of side) tunnel (status_said signal code))) result row.new }
 {
     let n = state_place(side);
     if row[at + n] != 3 {
         return 12;
     }
-    let ordinary = is_ordinary(signal, tunnel, code);
-    if !ordinary {
+    if !is_ordinary(signal, tunnel, code) {
         return 15;
     }
     let p = at + tunnel_place(side, tunnel);
     let next = next_channel(side, true, tunnel, signal, row[p]);
-    let fit = fits(tunnel, signal, next);
-    if !fit {
+    if !fits(tunnel, signal, next) {
         return forbidden(signal);
     }
     let q = at + queue_from(side);
@@ -352,9 +292,8 @@ fn send(row: &mut [u8], at: usize, side: u8, signal: u8, tunnel: u8, code: u8) -
 
 // A requesting end takes upack, and is linked.
 fn deliver_upack(row: &mut [u8], at: usize, side: u8) -> u64
-    requires { (at + 614 ≤ length row.old) × (0 < (queue_to (side_of side) (call_at row.old at)).count) × ((queue_to (other (side_of side)) (call_at row.old at)).count ≤ 16)
-        × ((slot (queue_to (side_of side) (call_at row.old at)).slots 0).signal ≡ Upack) }
-    ensures { (in_word result ≡ commanded_said (acted_at row.old at (Deliver (side_of side))).answer) × (row.new ≡ (acted_at row.old at (Deliver (side_of side))).bytes) }
+    requires { Due row.old at (side_of side) Upack }
+    ensures { Says (acted_at row.old at (Deliver (side_of side))) result row.new }
 {
     let n = state_place(side);
     if row[at + n] != 1 {
@@ -368,9 +307,8 @@ fn deliver_upack(row: &mut [u8], at: usize, side: u8) -> u64
 
 // An unlinking end takes downack, and is idle.
 fn deliver_downack(row: &mut [u8], at: usize, side: u8) -> u64
-    requires { (at + 614 ≤ length row.old) × (0 < (queue_to (side_of side) (call_at row.old at)).count) × ((queue_to (other (side_of side)) (call_at row.old at)).count ≤ 16)
-        × ((slot (queue_to (side_of side) (call_at row.old at)).slots 0).signal ≡ Downack) }
-    ensures { (in_word result ≡ commanded_said (acted_at row.old at (Deliver (side_of side))).answer) × (row.new ≡ (acted_at row.old at (Deliver (side_of side))).bytes) }
+    requires { Due row.old at (side_of side) Downack }
+    ensures { Says (acted_at row.old at (Deliver (side_of side))) result row.new }
 {
     let n = state_place(side);
     if row[at + n] < 4 {
@@ -382,7 +320,7 @@ fn deliver_downack(row: &mut [u8], at: usize, side: u8) -> u64
     handed(10, 0, 0)
 }
 
-// Where a teardown leads: a linked end is idle, an unlinking one stays.
+// Where a teardown leads: a linked end is idle, an unlinking one stays. (Beside `stays` two lines; one with a parameter is no plainer.)
 fn torn(state: u8) -> u8
     ensures { result ≡ cond (eqb state 3) 0 4 }
 {
@@ -391,9 +329,8 @@ fn torn(state: u8) -> u8
 
 // A linked or unlinking end takes teardown, and sends downack.
 fn deliver_teardown(row: &mut [u8], at: usize, side: u8) -> u64
-    requires { (at + 614 ≤ length row.old) × (0 < (queue_to (side_of side) (call_at row.old at)).count) × ((queue_to (other (side_of side)) (call_at row.old at)).count ≤ 16)
-        × ((slot (queue_to (side_of side) (call_at row.old at)).slots 0).signal ≡ Teardown) }
-    ensures { (in_word result ≡ commanded_said (acted_at row.old at (Deliver (side_of side))).answer) × (row.new ≡ (acted_at row.old at (Deliver (side_of side))).bytes) }
+    requires { Due row.old at (side_of side) Teardown }
+    ensures { Says (acted_at row.old at (Deliver (side_of side))) result row.new }
 {
     let n = state_place(side);
     let state = row[at + n];
@@ -411,7 +348,7 @@ fn deliver_teardown(row: &mut [u8], at: usize, side: u8) -> u64
     handed(9, 0, 0)
 }
 
-// The number of a state from linked on: a number past the last stands for the last.
+// The number of a state from linked on: a number past the last stands for the last. (Beside `torn`, as there.)
 fn stays(state: u8) -> u8
     ensures { result ≡ cond (eqb state 3) 3 4 }
 {
@@ -420,10 +357,8 @@ fn stays(state: u8) -> u8
 
 // A linked or unlinking end takes an ordinary signal that is fit for its channel.
 fn deliver_ordinary(row: &mut [u8], at: usize, side: u8) -> u64
-    requires { (at + 614 ≤ length row.old) × (0 < (queue_to (side_of side) (call_at row.old at)).count) × ((queue_to (other (side_of side)) (call_at row.old at)).count ≤ 16)
-        × ((slot (queue_to (side_of side) (call_at row.old at)).slots 0).signal
-        ≡ Ordinary (get_or row.old (at + queue_place (side_of side) + 2) 0) (status_said (get_or row.old (at + queue_place (side_of side) + 1) 0) (get_or row.old (at + queue_place (side_of side) + 3) 0))) }
-    ensures { (in_word result ≡ commanded_said (acted_at row.old at (Deliver (side_of side))).answer) × (row.new ≡ (acted_at row.old at (Deliver (side_of side))).bytes) }
+    requires { Due row.old at (side_of side) (Ordinary (get_or row.old (at + queue_place (side_of side) + 2) 0) (status_said (get_or row.old (at + queue_place (side_of side) + 1) 0) (get_or row.old (at + queue_place (side_of side) + 3) 0))) }
+    ensures { Says (acted_at row.old at (Deliver (side_of side))) result row.new }
 {
     let n = state_place(side);
     let state = row[at + n];
@@ -434,14 +369,12 @@ fn deliver_ordinary(row: &mut [u8], at: usize, side: u8) -> u64
     let signal = row[q + 1];
     let tunnel = row[q + 2];
     let code = row[q + 3];
-    let ordinary = is_ordinary(signal, tunnel, code);
-    if !ordinary {
+    if !is_ordinary(signal, tunnel, code) {
         return 17;
     }
     let p = at + tunnel_place(side, tunnel);
     let next = next_channel(side, false, tunnel, signal, row[p]);
-    let fit = fits(tunnel, signal, next);
-    if !fit {
+    if !fits(tunnel, signal, next) {
         return 17;
     }
     row[at + n] = stays(state);
@@ -453,26 +386,18 @@ fn deliver_ordinary(row: &mut [u8], at: usize, side: u8) -> u64
 // The head of the queue towards a side's end is handed over.
 fn deliver(row: &mut [u8], at: usize, side: u8) -> u64
     requires { (at + 614 ≤ length row.old) × ((queue_to (other (side_of side)) (call_at row.old at)).count ≤ 16) }
-    ensures { (in_word result ≡ commanded_said (acted_at row.old at (Deliver (side_of side))).answer) × (row.new ≡ (acted_at row.old at (Deliver (side_of side))).bytes) }
+    ensures { Says (acted_at row.old at (Deliver (side_of side))) result row.new }
 {
     let q = at + queue_to(side);
     if row[q] == 0 {
         return 14;
     }
-    let signal = row[q + 1];
-    if signal == 9 {
-        return deliver_teardown(row, at, side);
+    match row[q + 1] {
+        9 => deliver_teardown(row, at, side),
+        10 => deliver_downack(row, at, side),
+        0 | 2 => deliver_upack(row, at, side),
+        _ => deliver_ordinary(row, at, side),
     }
-    if signal == 10 {
-        return deliver_downack(row, at, side);
-    }
-    if signal == 2 {
-        return deliver_upack(row, at, side);
-    }
-    if signal == 0 {
-        return deliver_upack(row, at, side);
-    }
-    deliver_ordinary(row, at, side)
 }
 
 // ---- a step
@@ -487,30 +412,22 @@ fn sent_by(kind: u8, signal: u8) -> u8
 // A command for a record whose counts are at most 16.
 fn act(row: &mut [u8], at: usize, kind: u8, side: u8, signal: u8, tunnel: u8, code: u8) -> u64
     requires { (at + 614 ≤ length row.old) × ((queue_to (other (side_of side)) (call_at row.old at)).count ≤ 16) }
-    ensures { (in_word result ≡ commanded_said (acted_at row.old at (command_of kind side signal tunnel code)).answer) × (row.new ≡ (acted_at row.old at (command_of kind side signal tunnel code)).bytes) }
+    ensures { Says (acted_at row.old at (command_of kind side signal tunnel code)) result row.new }
 {
-    if kind == 0 {
-        return accept(row, at);
+    match kind {
+        0 => accept(row, at),
+        1 => three_sent(row, at, 5),
+        2 => three_sent(row, at, 3),
+        4 => teardown(row, at, side),
+        5 => deliver(row, at, side),
+        _ => send(row, at, side, sent_by(kind, signal), tunnel, code),
     }
-    if kind == 1 {
-        return three_sent(row, at, 5);
-    }
-    if kind == 2 {
-        return three_sent(row, at, 3);
-    }
-    if kind == 4 {
-        return teardown(row, at, side);
-    }
-    if kind == 5 {
-        return deliver(row, at, side);
-    }
-    send(row, at, side, sent_by(kind, signal), tunnel, code)
 }
 
 // A command for a record whose bytes are there.
 fn step_in(row: &mut [u8], at: usize, kind: u8, side: u8, signal: u8, tunnel: u8, code: u8) -> u64
     requires { at + 614 ≤ length row.old }
-    ensures { (in_word result ≡ commanded_said (step_at row.old at (command_of kind side signal tunnel code)).answer) × (row.new ≡ (step_at row.old at (command_of kind side signal tunnel code)).bytes) }
+    ensures { Says (step_at row.old at (command_of kind side signal tunnel code)) result row.new }
 {
     if 16 < row[at + 4] {
         return 17;

@@ -1,4 +1,5 @@
 -- A reversal meets each reversible box once, in the reverse order. Assumes nothing.
+use Rattle.std.specs.Prelude.{Some}
 use mathlib.Core.Path.{◌≡◌, sym, ap, ◌∙◌}
 use mathlib.Core.Logic.{⊎_elim}
 use mathlib.Core.Bool.{true, false}
@@ -9,7 +10,6 @@ use Rattle.typeset.proofs.Bools.{clash}
 use Rattle.plan.specs.declared.Region.{Region}
 use Rattle.plan.specs.declared.Region.TheVariants.{Source, Target}
 use Rattle.plan.specs.declared.Plan.{Plan}
-use Rattle.plan.specs.declared.Found.TheVariants.{At}
 use Rattle.plan.specs.Parts.{order, subscribed, at}
 use Rattle.plan.specs.Sound.{sound}
 use Rattle.plan.specs.Find.{lookup}
@@ -53,7 +53,7 @@ module _ (p : Plan) (𝓢 : sound p ≡ true) where
     own : ℕ
     own = (at p.subscribers i).address
 
-    found : lookup p own ≡ At i
+    found : lookup p own ≡ Some i
     unfolding own
     found = found-own p 𝓢 i h
 

@@ -1,4 +1,5 @@
 -- The interface box of an address of a sound plan, kind by kind (manual 6.5). Assumes nothing.
+use Rattle.std.specs.Prelude.{Option, Some, None}
 use mathlib.Core.Path.{◌≡◌, refl, sym, ap, ◌∙◌}
 use mathlib.Core.Logic.{⊎_elim}
 use mathlib.Core.Bool.{true, false}
@@ -9,8 +10,6 @@ use borrow.Author.Tests.{ne_eqb}
 use Rattle.typeset.proofs.Bools.{yes_or_no}
 use Rattle.plan.specs.declared.Subscriber.{Subscriber}
 use Rattle.plan.specs.declared.Plan.{Plan}
-use Rattle.plan.specs.declared.Found.{Found}
-use Rattle.plan.specs.declared.Found.TheVariants.{At, Nothing}
 use Rattle.plan.specs.Parts.{at, box}
 use Rattle.plan.specs.Sound.{sound}
 use Rattle.plan.specs.Find.{used, lookup, holder_of, holder_at}
@@ -18,7 +17,6 @@ use Rattle.plan.proofs.Lookup.{found-used}
 use Rattle.plan.proofs.Holders.{line-one, resource-some, mobile-none}
 use Rattle.routing.specs.declared.Callee.{Callee}
 use Rattle.routing.specs.declared.Callee.TheVariants.{Line, Trunk, Resource, Error}
-use Rattle.routing.specs.declared.First.TheVariants.{Box, Nothing as NoBox}
 use Rattle.routing.specs.Places.{first_listed}
 use Rattle.routing.specs.Interface.{is_feature, address_of, box_of, first_box, found_box, interface_at}
 
@@ -46,10 +44,10 @@ first-interface s a =
     (λ (e : eqb s.count 0 ≡ false). rw e (box-interface s.kind (box s 0) a))
     (yes_or_no (eqb s.count 0))
 
-found-interface : (p : Plan) (f : Found) (a : ℕ) → Interface (found_box p f a) a
+found-interface : (p : Plan) (f : (Option ℕ)) (a : ℕ) → Interface (found_box p f a) a
 unfolding found_box
-found-interface p (At i) a = first-interface (at p.subscribers i) a
-found-interface p Nothing a = record { no-feature = refl; address = refl }
+found-interface p (Some i) a = first-interface (at p.subscribers i) a
+found-interface p None a = record { no-feature = refl; address = refl }
 
 -- it is never a feature box, and its address is the one looked up
 pub interface-no-feature : (p : Plan) (a : ℕ) → is_feature (interface_at p a) ≡ false
@@ -61,10 +59,10 @@ unfolding interface_at
 interface-address p a = (found-interface p (lookup p a) a).address
 
 -- it is the first listed box of the subscriber whom the plan shows for the address; nobody lists one
-shown_of : (p : Plan) (f : Found) (a : ℕ) → found_box p f a ≡ first_box (holder_of p f) a
+shown_of : (p : Plan) (f : (Option ℕ)) (a : ℕ) → found_box p f a ≡ first_box (holder_of p f) a
 unfolding found_box first_box
-shown_of p (At i) a = refl
-shown_of p Nothing a = refl
+shown_of p (Some i) a = refl
+shown_of p None a = refl
 
 pub interface-shown : (p : Plan) (a : ℕ) {s : Subscriber} → holder_at p a ≡ s → interface_at p a ≡ first_box s a
 unfolding interface_at holder_at
@@ -72,38 +70,39 @@ interface-shown p a e = shown_of p (lookup p a) a ∙ ap (λ (s : Subscriber). f
 
 -- ---- who has which
 
-pub nobody-error : (p : Plan) (a : ℕ) → lookup p a ≡ Nothing → interface_at p a ≡ Error a
+pub nobody-error : (p : Plan) (a : ℕ) → lookup p a ≡ None → interface_at p a ≡ Error a
 unfolding interface_at found_box
 nobody-error p a e = rw e
 
 -- the first listed box as the look-up tells it
-pub none-listed : (s : Subscriber) (a : ℕ) → first_listed s ≡ NoBox → first_box s a ≡ Error a
+pub none-listed : (s : Subscriber) (a : ℕ) → first_listed s ≡ None → first_box s a ≡ Error a
 unfolding first_box
 none-listed s a e =
     ⊎_elim (λ (yes : eqb s.count 0 ≡ true). rw yes)
     (λ (no : eqb s.count 0 ≡ false).
-    let some : first_listed s ≡ Box s.kind (box s 0) = rw no in
+    let some : first_listed s ≡ Some (s.kind, box s 0) = rw no in
     let never : ◌≡◌ {A = ℕ} 0 1 = cc in
     absurd (omega arith))
     (yes_or_no (eqb s.count 0))
 
-pub one-listed : (s : Subscriber) (a kind n : ℕ) → first_listed s ≡ Box kind n → first_box s a ≡ box_of kind n a
+pub one-listed : (s : Subscriber) (a kind n : ℕ) → first_listed s ≡ Some (kind, n) → first_box s a ≡ box_of kind n a
 unfolding first_box
 one-listed s a kind n e =
     ⊎_elim
     (λ (yes : eqb s.count 0 ≡ true).
-    let none : first_listed s ≡ NoBox = rw yes in
+    let none : first_listed s ≡ None = rw yes in
     let never : ◌≡◌ {A = ℕ} 0 1 = cc in
     absurd (omega arith))
     (λ (no : eqb s.count 0 ≡ false).
-    let some : first_listed s ≡ Box s.kind (box s 0) = rw no in
-    let same : Box s.kind (box s 0) ≡ Box kind n = sym some ∙ e in
-    let kinds : s.kind ≡ kind = cc in
-    let numbers : box s 0 ≡ n = cc in
+    let some : first_listed s ≡ Some (s.kind, box s 0) = rw no in
+    let same : Some (s.kind, box s 0) ≡ Some (kind, n) = sym some ∙ e in
+    let listed : (s.kind, box s 0) ≡ (kind, n) = cc in
+    let kinds : s.kind ≡ kind = ap (λ (x : ℕ × ℕ). x.0) listed in
+    let numbers : box s 0 ≡ n = ap (λ (x : ℕ × ℕ). x.1) listed in
     rw (no, kinds, numbers))
     (yes_or_no (eqb s.count 0))
 
-module _ (p : Plan) (𝓢 : sound p ≡ true) (a i : ℕ) (found : lookup p a ≡ At i) where
+module _ (p : Plan) (𝓢 : sound p ≡ true) (a i : ℕ) (found : lookup p a ≡ Some i) where
   in_use : i < p.count
   unfolding used
   in_use = omega (arith, found-used p a i found)

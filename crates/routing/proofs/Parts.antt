@@ -5,17 +5,21 @@ use mathlib.Core.Bool.{true, false}
 use mathlib.Core.List.{List, [], ◌∷◌, ◌++◌}
 use Prim.Native.Nat.{ℕ, zero, suc, ◌+◌, ◌-◌, ◌≤◌, ◌<◌, min}
 use native.Mathlib.Nat.{min-zero, zero-min, suc-min-suc, suc-sub-suc, sub-zero, zero-add}
-use native.Mathlib.Numerals.{add-one}
 use native.Mathlib.Omega.{arith}
 use lib.Dec.{eqb, leb}
-use lib.ListN.{length, get_or, set, take, drop, length-take, drop_of_length-le}
-use lib.Seq.{sets, sets-eq, take-nil, drop-nil, drop-cons, take_all, take_at, get_or-take}
+use lib.ListN.{length, get_or, take, drop, length-take}
+use lib.Seq.{sets, sets-eq, take-nil, drop-nil, take_all, take_at}
 use borrow.Author.Tests.{le-leb, lt-leb}
-use Rattle.typeset.proofs.Below.{least-le, least-found, least-none}
+use Rattle.typeset.proofs.Below.{least-found, least-none}
 use Rattle.typeset.proofs.Laws.{split}
 use Rattle.zone.specs.declared.Zone.{Zone}
-use Rattle.setup.specs.Setups.{list_of}
-use Rattle.routing.specs.Steps.{place_of, empty, tail}
+use Rattle.zone.specs.Order.{list_of}
+use Rattle.routing.specs.Steps.{place_of, stands, before, empty, tail}
+use Rattle.std.specs.Prelude.{HoldsAt}
+use Rattle.std.specs.List.{AllWithin}
+use borrow.Author.Tests.{lt-ltb, le-ltb}
+use native.Mathlib.Nat.{le_refl}
+use Rattle.typeset.specs.Sets.{least}
 
 -- ---- end parts
 
@@ -32,10 +36,10 @@ part_cut (x ∷ l) k zero = simp (zero-min, min-zero, drop-nil)
 part_cut (x ∷ l) zero (suc n) = simp (zero-min, sub-zero, suc-min-suc) (ap (λ (r : List ℕ). x ∷ r) (take-cut l n))
 part_cut (x ∷ l) (suc k) (suc n) = simp (suc-min-suc, suc-sub-suc) (part_cut l k n)
 
-pub tail-cut : (l : List ℕ) → take (length l - min 1 (length l)) (drop (min 1 (length l)) l) ≡ tail l
+pub tail-cut : (l : List ℕ) → take (length l - min (length l) 1) (drop (min (length l) 1) l) ≡ tail l
 tail-cut [] = refl
 tail-cut (x ∷ l) =
-    let one : min 1 (suc (length l)) ≡ 1 = omega arith in
+    let one : min (suc (length l)) 1 ≡ 1 = omega arith in
     let rest : suc (length l) - 1 ≡ length l = omega arith in
     rw (one, rest) (take_all (length l) l (omega arith))
 
@@ -59,49 +63,25 @@ empty-drop (suc k) (x ∷ l) = empty-drop k l ∙ sym (leb-suc (length l) k)
 
 -- ---- a list as the program holds it
 
-pub list-cut : (z : Zone) → take (length (list_of z)) z.types ≡ list_of z
-unfolding list_of
-list-cut z = rw (length-take z.len z.types) (take-cut z.types z.len)
-
 pub list-short : (z : Zone) → length z.types ≡ 32 → length (list_of z) ≤ 32
 unfolding list_of
 list-short z long = simp length-take (omega arith)
 
-pub list_at : (z : Zone) (i : ℕ) → i < length (list_of z) → get_or (list_of z) i 0 ≡ get_or z.types i 0
-unfolding list_of
-list_at z i h =
-    let short : length (take z.len z.types) ≤ z.len = simp length-take (omega arith) in
-    get_or-take z.len z.types i 0 (omega arith)
-
 -- ---- where a type stands
 
-pub place_found : (z : Zone) (t i : ℕ) → ((k : ℕ) → k < i → eqb (get_or z.types k 0) t ≡ false) → i < length (list_of z) → eqb (get_or z.types i 0) t ≡ true → place_of t (list_of z) ≡ i
-unfolding place_of
-place_found z t i none inside found =
-    least-found (length (list_of z)) (λ i. eqb (get_or (list_of z) i 0) t) i
-    (λ k h. let lower : k < length (list_of z) = omega arith in rw (list_at z k lower) (none k h))
-    inside (rw (list_at z i inside) found)
+pub before-found : (t : ℕ) (zone : List ℕ) (i : ℕ) → (i < length zone) × HoldsAt (λ u. eqb u t ≡ true) zone i × AllWithin (λ u. eqb u t ≡ false) zone 0 i → i + 1 ≡ before t zone
+unfolding before stands place_of
+before-found t zone i (h, here, none) =
+    let first : least (length zone) (λ k. eqb (get_or zone k 0) t) ≡ i = least-found (length zone) (λ k. eqb (get_or zone k 0) t) i (λ k l. none k 0 (omega arith) l) h (here 0) in
+    rw (first, lt-ltb i (length zone) h)
 
-pub place_none : (z : Zone) (t : ℕ) → ((k : ℕ) → k < length (list_of z) → eqb (get_or z.types k 0) t ≡ false) → place_of t (list_of z) ≡ length (list_of z)
-unfolding place_of
-place_none z t none = least-none (length (list_of z)) (λ i. eqb (get_or (list_of z) i 0) t) (λ k h. rw (list_at z k h) (none k h))
-
-pub place-low : (t : ℕ) (z : Zone) → length z.types ≡ 32 → place_of t (list_of z) ≤ 32
-unfolding place_of
-place-low t z long = omega (arith, list-short z long, least-le (length (list_of z)) (λ i. eqb (get_or (list_of z) i 0) t))
+pub before-nowhere : (t : ℕ) (zone : List ℕ) → AllWithin (λ u. eqb u t ≡ false) zone 0 (length zone) → 0 ≡ before t zone
+unfolding before stands place_of
+before-nowhere t zone none =
+    let last : least (length zone) (λ k. eqb (get_or zone k 0) t) ≡ length zone = least-none (length zone) (λ k. eqb (get_or zone k 0) t) (λ k l. none k 0 (omega arith) l) in
+    rw (last, le-ltb (length zone) (length zone) (le_refl (length zone)))
 
 -- ---- a list stored from place 0 on
-
-pub store-next : (l xs : List ℕ) (end i : ℕ) → i < end → end ≤ length xs
-    → sets l i (drop i (take end xs)) ≡ sets (set l i (get_or xs i 0)) (i + 1) (drop (i + 1) (take end xs))
-store-next l xs end i h long =
-    let inside : i < length (take end xs) = simp length-take (omega arith) in
-    rw (drop-cons (take end xs) i 0 inside, get_or-take end xs i 0 h, add-one i)
-
-pub store-done : (l xs : List ℕ) (end : ℕ) → sets l end (drop end (take end xs)) ≡ l
-store-done l xs end =
-    let short : length (take end xs) ≤ end = simp length-take (omega arith) in
-    ap (sets l end) (drop_of_length-le (take end xs) short)
 
 pub stored-front : (xs l : List ℕ) → length xs ≤ length l → sets l 0 xs ≡ xs ++ drop (length xs) l
 stored-front xs l h = sets-eq xs l 0 (omega arith) ∙ ap (λ (k : ℕ). xs ++ drop k l) (zero-add (length xs))

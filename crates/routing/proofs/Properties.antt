@@ -1,4 +1,5 @@
 -- The properties of routing (specs/Properties.antt; manual 6.6), and what it hands to a feature box. Assumes nothing.
+use Rattle.std.specs.Prelude.{Option, Some, None, Ok}
 use mathlib.Core.Path.{◌≡◌, refl, sym, ap, ◌∙◌}
 use mathlib.Core.Logic.{◌⊎◌, inl, inr, ⊎_elim}
 use mathlib.Core.Bool.{Bool, true, false, false≢true, ◌&&◌}
@@ -16,30 +17,25 @@ use Rattle.typeset.proofs.Laws.{split}
 use Rattle.plan.specs.declared.Region.{Region}
 use Rattle.plan.specs.declared.Region.TheVariants.{Source, Target}
 use Rattle.plan.specs.declared.Plan.{Plan}
-use Rattle.plan.specs.Parts.{legal}
-use Rattle.zone.specs.Order.{held}
+use Rattle.plan.specs.Parts.{legal, of_region}
+use Rattle.zone.specs.Order.{held, list_of}
 use Rattle.zone.specs.Answer.{zone_at}
 use Rattle.zone.proofs.PlanZones.{zone-short, zone-zero}
-use Rattle.setup.specs.declared.Outer.{Outer}
-use Rattle.setup.specs.declared.Outer.TheVariants.{NoOuter, OuterAt}
 use Rattle.setup.specs.declared.Setup.{Setup}
 use Rattle.setup.specs.Dialling.{string_of, legal_dialled}
-use Rattle.setup.specs.Setups.{routing, routing_address, list_of, end_part, outer_legal, in_range, list_fits, outer_absent, outer_fits, well_formed}
+use Rattle.setup.specs.Setups.{routing, routing_address, end_part, outer_legal, in_range, list_fits, outer_absent, outer_fits, well_formed}
 use Rattle.setup.proofs.Stored.{string-of-dialled}
 use Rattle.setup.proofs.Faults.{well-formed-kept, well-formed-of, dialled-legal, string-legal}
 use Rattle.setup.proofs.Tails.{end-part-of, end-part-short, end-part-is}
-use Rattle.embedded.specs.declared.Dials.{Dials}
-use Rattle.embedded.specs.declared.Dials.TheVariants.{Nobody, Address}
 use Rattle.embedded.specs.Embedded.{embedded}
 use Rattle.embedded.proofs.Digits.{embedded-legal}
 use Rattle.routing.specs.declared.Callee.{Callee}
-use Rattle.routing.specs.declared.Outcome.TheVariants.{Routed}
 use Rattle.routing.specs.Interface.{is_feature, address_of, interface_at}
 use Rattle.routing.specs.Steps.{dials, target1, place_of, stands, zone2, route2, empty, exhausted, region3, route3, outer3, tail, callee4, received4, region_of, route_of, callee_of, received_of, left_of}
 use Rattle.routing.specs.Properties.{FeatureBox, Manual66, ReceivedWellFormed, LeftLies}
 use Rattle.routing.proofs.Zoned.{held-is, route-begins}
 use Rattle.routing.specs.Routing.{source_list_after, target_list_after}
-use Rattle.routing.specs.Places.{list_in, begins}
+use Rattle.routing.specs.Places.{begins}
 use Rattle.routing.proofs.Boxes.{interface-no-feature, interface-address}
 
 -- ---- end parts of a zone
@@ -92,11 +88,11 @@ back r l e = rw e
 
 -- ---- outer
 
-absent_none : (o : Outer) → outer_absent o ≡ true → o ≡ NoOuter
-absent_none NoOuter e = refl
-absent_none (OuterAt a) e = absurd (false≢true e)
+absent_none : (o : (Option ℕ)) → outer_absent o ≡ true → o ≡ None
+absent_none None e = refl
+absent_none (Some a) e = absurd (false≢true e)
 
-no_outer : (p : Plan) (out : Setup) → well_formed p out ≡ true → region_of p out ≡ Target → outer3 out.region (route2 p out) out.outer ≡ NoOuter
+no_outer : (p : Plan) (out : Setup) → well_formed p out ≡ true → region_of p out ≡ Target → outer3 out.region (route2 p out) out.outer ≡ None
 unfolding outer3 region_of region3
 no_outer p out w t =
     ⊎_elim
@@ -198,7 +194,7 @@ manual66 p out w = record {
 -- ---- where what is left lies
 
 list-holds : (p : Plan) (r : Region) (out : Setup) (callee : Callee) (source target : List ℕ)
-    → take (length (zone_at p r (routing r out.source (target1 out)))) (list_in r (source_list_after p out (Routed callee) source) (target_list_after p out (Routed callee) target)) ≡ zone_at p r (routing r out.source (target1 out))
+    → take (length (zone_at p r (routing r out.source (target1 out)))) (of_region r (source_list_after p out (Ok callee) source) (target_list_after p out (Ok callee) target)) ≡ zone_at p r (routing r out.source (target1 out))
 unfolding source_list_after target_list_after
 list-holds p Source out callee source target = take_at (zone_at p Source out.source) (drop (length (zone_at p Source out.source)) source) (length (zone_at p Source out.source)) refl
 list-holds p Target out callee source target = take_at (zone_at p Target (target1 out)) (drop (length (zone_at p Target (target1 out))) target) (length (zone_at p Target (target1 out))) refl
@@ -211,10 +207,10 @@ left-lies p out callee source target w =
 
 -- ---- what a feature box receives
 
-dials-legal : (l : List ℕ) (d : Dials) → embedded l ≡ d → legal (dials d) ≡ true
+dials-legal : (l : List ℕ) (d : (Option ℕ)) → embedded l ≡ d → legal (dials d) ≡ true
 unfolding legal
-dials-legal l Nobody e = refl
-dials-legal l (Address a) e = le-leb a 999999999 (embedded-legal l a e).0
+dials-legal l None e = refl
+dials-legal l (Some a) e = le-leb a 999999999 (embedded-legal l a e).0
 
 target-legal : (out : Setup) → legal out.target ≡ true → legal (target1 out) ≡ true
 unfolding target1
@@ -224,7 +220,7 @@ target-legal out e =
     (λ (z : eqb out.target 0 ≡ false). rw z e)
     (yes_or_no (eqb out.target 0))
 
-outer-legal : (r : Region) (l : List ℕ) (o : Outer) → outer_legal o ≡ true → outer_legal (outer3 r l o) ≡ true
+outer-legal : (r : Region) (l : List ℕ) (o : (Option ℕ)) → outer_legal o ≡ true → outer_legal (outer3 r l o) ≡ true
 unfolding outer3
 outer-legal r l o e =
     ⊎_elim
@@ -269,7 +265,7 @@ no_zero p r t a e =
     (λ (z : eqb a 0 ≡ false). z)
     (yes_or_no (eqb a 0))
 
-outer-fits : (r : Region) (l : List ℕ) (o : Outer) → outer_fits r o ≡ true → outer_fits (region3 r l) (outer3 r l o) ≡ true
+outer-fits : (r : Region) (l : List ℕ) (o : (Option ℕ)) → outer_fits r o ≡ true → outer_fits (region3 r l) (outer3 r l o) ≡ true
 unfolding region3 outer3
 outer-fits r l o e =
     ⊎_elim

@@ -1,9 +1,7 @@
 -- The interface box of an address (manual 6.5): the target's line box; its first listed trunk or resource box (house choice); else the error box. Assumes nothing.
-use Rattle.std.specs.Prelude.{ℕ, Bool, true, false, cond, eqb}
+use Rattle.std.specs.Prelude.{ℕ, Bool, true, false, cond, eqb, Option, Some, None}
 use Rattle.plan.specs.declared.Subscriber.{Subscriber}
 use Rattle.plan.specs.declared.Plan.{Plan}
-use Rattle.plan.specs.declared.Found.{Found}
-use Rattle.plan.specs.declared.Found.TheVariants.{At, Nothing}
 use Rattle.plan.specs.Parts.{at, box}
 use Rattle.plan.specs.Find.{lookup}
 use Rattle.routing.specs.declared.Callee.{Callee}
@@ -33,9 +31,9 @@ unfoldable pub first_box : Subscriber → ℕ → Callee
 first_box s a = cond (eqb s.count 0) (Error a) (box_of s.kind (box s 0) a)
 
 -- a look-up that finds no subscriber leads to the error box
-unfoldable pub found_box : Plan → Found → ℕ → Callee
-found_box p (At i) a = first_box (at p.subscribers i) a
-found_box p Nothing a = Error a
+unfoldable pub found_box : Plan → Option ℕ → ℕ → Callee
+found_box p (Some i) a = first_box (at p.subscribers i) a
+found_box p None a = Error a
 
 unfoldable pub interface_at : Plan → ℕ → Callee
 interface_at p a = found_box p (lookup p a) a

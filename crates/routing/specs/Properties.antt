@@ -1,21 +1,19 @@
 -- What the manual says of routing as a whole (6.6), of a well-formed setup `out` sent and the setup received. Proved in proofs/Properties.antt. Assumes nothing.
-use Rattle.std.specs.Prelude.{ℕ, ◌-◌, ◌≡◌, ◌⊎◌, true, false, List, ◌∷◌, length, take, drop}
+use Rattle.std.specs.Prelude.{ℕ, ◌-◌, ◌≡◌, ◌⊎◌, true, false, List, ◌∷◌, length, take, drop, None, Ok}
 use Rattle.plan.specs.declared.Region.TheVariants.{Source, Target}
 use Rattle.plan.specs.declared.Plan.{Plan}
 use Rattle.zone.specs.Answer.{zone_at}
 use Rattle.setup.specs.declared.Route.TheVariants.{Listed}
-use Rattle.setup.specs.declared.Placing.TheVariants.{NoPlacing}
-use Rattle.setup.specs.declared.Outer.TheVariants.{NoOuter}
 use Rattle.setup.specs.declared.Setup.{Setup}
 use Rattle.setup.specs.Dialling.{string_of}
-use Rattle.setup.specs.Setups.{routing_address, list_of, end_part, well_formed}
+use Rattle.zone.specs.Order.{list_of}
+use Rattle.setup.specs.Setups.{routing_address, end_part, well_formed}
 use Rattle.routing.specs.declared.Callee.{Callee}
 use Rattle.routing.specs.declared.Callee.TheVariants.{Feature}
-use Rattle.routing.specs.declared.Outcome.TheVariants.{Routed}
 use Rattle.routing.specs.Interface.{is_feature, address_of, interface_at}
 use Rattle.routing.specs.Steps.{target1, stands, callee_of, received_of, left_of}
 use Rattle.routing.specs.Routing.{source_list_after, target_list_after}
-use Rattle.routing.specs.Places.{list_in}
+use Rattle.plan.specs.Parts.{of_region}
 
 -- the callee box is a feature box at address a, of a type of the zone; after that type the zone goes on with what is left
 pub record FeatureBox (callee : Callee) (zone : List ℕ) (a : ℕ) (left : List ℕ) : Type 0 where
@@ -36,8 +34,8 @@ pub record Properties (p : Plan) (out : Setup) : Type 0 where
   pub end_part : end_part (list_of (received_of p out).list) (zone_at p (received_of p out).region (routing_address (received_of p out))) ≡ true
   pub left : left_of p out ≡ length (list_of (received_of p out).list)
   -- no placing type; no outer in the target region
-  pub unplaced : (received_of p out).placing ≡ NoPlacing
-  pub no_outer : (received_of p out).region ≡ Target → (received_of p out).outer ≡ NoOuter
+  pub unplaced : (received_of p out).placing ≡ None
+  pub no_outer : (received_of p out).region ≡ Target → (received_of p out).outer ≡ None
   -- in the source region a feature box at the source's address, of a type of its source zone; in the target region one at the target's, of a type of its target zone, or the target's interface box
   pub in_source : (received_of p out).region ≡ Source → FeatureBox (callee_of p out) (zone_at p Source (received_of p out).source) (received_of p out).source (list_of (received_of p out).list)
   pub in_target : (received_of p out).region ≡ Target
@@ -61,4 +59,4 @@ LeftLies =
     → list_of (received_of p out).list
     ≡ drop (length (zone_at p (received_of p out).region (routing_address (received_of p out))) - left_of p out)
     (take (length (zone_at p (received_of p out).region (routing_address (received_of p out))))
-    (list_in (received_of p out).region (source_list_after p out (Routed callee) source) (target_list_after p out (Routed callee) target)))
+    (of_region (received_of p out).region (source_list_after p out (Ok callee) source) (target_list_after p out (Ok callee) target)))

@@ -1,22 +1,16 @@
 -- The four steps of routing (manual 6.2 to 6.5), for any plan and any setup. `out` is the setup sent. Assumes nothing.
-use Rattle.std.specs.Prelude.{ℕ, ◌+◌, Bool, true, false, cond, List, [], ◌∷◌, eqb, ltb, length, get_or, drop}
+use Rattle.std.specs.Prelude.{ℕ, ◌+◌, Bool, true, false, cond, List, [], ◌∷◌, eqb, ltb, length, get_or, drop, Option, Some, None}
 use Rattle.typeset.specs.Sets.{least}
 use Rattle.plan.specs.declared.Region.{Region}
 use Rattle.plan.specs.declared.Region.TheVariants.{Source, Target}
 use Rattle.plan.specs.declared.Plan.{Plan}
-use Rattle.zone.specs.Order.{held}
+use Rattle.zone.specs.Order.{held, list_of}
 use Rattle.zone.specs.Answer.{zone_at}
 use Rattle.setup.specs.declared.Route.{Route}
 use Rattle.setup.specs.declared.Route.TheVariants.{Whole, Suffix, Listed}
-use Rattle.setup.specs.declared.Placing.{Placing}
-use Rattle.setup.specs.declared.Placing.TheVariants.{NoPlacing, PlacedBy}
-use Rattle.setup.specs.declared.Outer.{Outer}
-use Rattle.setup.specs.declared.Outer.TheVariants.{NoOuter}
 use Rattle.setup.specs.declared.Setup.{Setup}
 use Rattle.setup.specs.Dialling.{dialled, string_of}
-use Rattle.setup.specs.Setups.{routing, list_of}
-use Rattle.embedded.specs.declared.Dials.{Dials}
-use Rattle.embedded.specs.declared.Dials.TheVariants.{Nobody, Address}
+use Rattle.setup.specs.Setups.{routing}
 use Rattle.embedded.specs.Embedded.{embedded}
 use Rattle.routing.specs.declared.Callee.{Callee}
 use Rattle.routing.specs.declared.Callee.TheVariants.{Feature}
@@ -24,9 +18,9 @@ use Rattle.routing.specs.Interface.{interface_at}
 
 -- ---- step 1 (6.2): no target and the string embeds one: take it
 
-abbrev pub dials : Dials → ℕ
-dials Nobody = 0
-dials (Address a) = a
+abbrev pub dials : Option ℕ → ℕ
+dials None = 0
+dials (Some a) = a
 
 unfoldable pub target1 : Setup → ℕ
 target1 out = cond (eqb out.target 0) (dials (embedded (string_of out.dialled))) out.target
@@ -48,11 +42,11 @@ before t zone = cond (stands t zone) (place_of t zone + 1) 0
 unfoldable pub suffix_after : ℕ → List ℕ → List ℕ
 suffix_after t zone = drop (before t zone) zone
 
-abbrev pub suffix : Placing → List ℕ → List ℕ
-suffix NoPlacing zone = zone
-suffix (PlacedBy t) zone = suffix_after t zone
+abbrev pub suffix : Option ℕ → List ℕ → List ℕ
+suffix None zone = zone
+suffix (Some t) zone = suffix_after t zone
 
-abbrev pub expanded : Route → Placing → List ℕ → List ℕ → List ℕ
+abbrev pub expanded : Route → Option ℕ → List ℕ → List ℕ → List ℕ
 expanded Whole _ l zone = zone
 expanded Suffix placing l zone = suffix placing zone
 expanded Listed _ l zone = l
@@ -80,8 +74,8 @@ region3 r rest = cond (exhausted r rest) Target r
 unfoldable pub route3 : Region → List ℕ → List ℕ → List ℕ
 route3 r rest targetZone = cond (exhausted r rest) targetZone rest
 
-unfoldable pub outer3 : Region → List ℕ → Outer → Outer
-outer3 r rest outer = cond (exhausted r rest) NoOuter outer
+unfoldable pub outer3 : Region → List ℕ → Option ℕ → Option ℕ
+outer3 r rest outer = cond (exhausted r rest) None outer
 
 -- ---- step 4 (6.5): something left: the head type at the routing address, the tail stays in the setup. Nothing left: the target's interface box
 
@@ -98,7 +92,7 @@ unfoldable pub callee4 : Plan → ℕ → ℕ → Region → List ℕ → Callee
 callee4 p source target r rest = chosen rest (routing r source target) (interface_at p target)
 
 -- the setup received: source and string as they were sent, the tail of the route, no placing type
-unfoldable pub received4 : Setup → ℕ → Region → Outer → List ℕ → Setup
+unfoldable pub received4 : Setup → ℕ → Region → Option ℕ → List ℕ → Setup
 received4 out target r outer rest = record {
   region = r;
   source = out.source;
@@ -106,7 +100,7 @@ received4 out target r outer rest = record {
   target = target;
   route = Listed;
   list = held (tail rest);
-  placing = NoPlacing;
+  placing = None;
   outer = outer;
 }
 

@@ -1,4 +1,5 @@
 -- The theorems on the operations on lent bytes (specs/Operations.antt). Assumes nothing.
+use Rattle.std.specs.Prelude.{Result}
 use Rattle.std.proofs.Common.{◌≡◌, ℕ, ◌+◌, ◌*◌, ◌<◌, ◌≤◌, Bool, true, false, cond, ltb, ◌≢◌, List, [], ◌∷◌, ◌++◌, map, length, get_or, take, drop, set, replicate, sym, refl, ap, ◌∙◌, subst, ap₂, arith, length-drop, length-take-le, get_or-drop, get_or-take, ltb-false, ltb-true}
 use lib.Seq.{sets, set_out, length-sets}
 use Rattle.refusal.specs.declared.Refusal.TheVariants.{NoSuchCall, RowTooLong}
@@ -7,16 +8,15 @@ use Rattle.plan.specs.Sound.{sound}
 use Rattle.setup.specs.declared.Setup.{Setup}
 use Rattle.call.specs.declared.Call.{Call}
 use Rattle.call.specs.declared.Command.{Command}
-use Rattle.call.specs.Protocol.{step, cleared}
-use Rattle.call.specs.Row.{Reply, Turn, placed_at, says, Act, place, record_at, named, refuses, put, turn, turns, granted, doing, own}
-use Rattle.routing.specs.declared.Outcome.{Outcome}
+use Rattle.call.specs.Protocol.{step, cleared, next_use}
+use Rattle.call.specs.Row.{Reply, Turn, placed_at, says, Act, place, record_at, lowest_free, named, refuses, put, turn, turns, granted, doing, own}
 use Rattle.teardown.specs.Teardown.{CallIn}
 use Rattle.teardown.proofs.Media.{none_twice}
 use Rattle.teardown.proofs.Theorem.{never_unfit}
 use Rattle.teardown.proofs.Row.{reached_by_name, no_deadlock_in_row, in_order_in_row, demand3_in_row}
-use Rattle.placing.specs.Rows.{outcome_in, turned, row_after}
+use Rattle.placing.specs.Rows.{outcome_in, answer_in, turned, row_after}
 use Rattle.placing.specs.Operations.{Operation, placing, commanding, row_of, rows_of, number_for, PortOperation, placing_there, commanding_it, port_of, ports_of, port_number, Use, operating, lending, clearing, used, HeadsFit, PortUse, operating_it, clearing_it, port_used, act_by, acts_of, CallPlaced}
-use Rattle.placing.proofs.Settles.{routing-to, refusing-by, came-by, places}
+use Rattle.placing.proofs.Settles.{routing-to, refusing-by, came-by, places, given-is}
 use Rattle.placing.proofs.Operations.{as-acts, never17, port-never17, never-unfit, port-reached, port-no-deadlock, port-in-order, port-demand3}
 use Rattle.recordbytes.specs.Records.{call_at}
 use Rattle.recordbytes.specs.Steps.{Outside, in_front, behind, step_at}
@@ -26,6 +26,8 @@ use Rattle.rowbytes.specs.Rows.{records_in, row_in, cleared_in, placed_bytes, pl
 use Rattle.rowbytes.specs.Operations.{bytes_of, port_bytes_of, bytes_lent, bytes_used, port_bytes_used, AsRow, AsPort, BytesNever17, BytesFit, CallInBytes, bytes_done, BytesReached, BytesNoDeadlock, BytesInOrder, BytesDemand3, BytesNoneTwice, BytesNeverUnfit, port_bytes_done, PortBytesReached, PortBytesNoDeadlock, PortBytesInOrder, PortBytesDemand3, PortBytesNoneTwice, PortBytesNeverUnfit}
 use Rattle.rowbytes.proofs.Rows.{row-length, inside, record-in, row-changed, from-0, row-cleared, cleared-length}
 use Rattle.rowbytes.proofs.Turns.{row-granted, named-inside, not-routed, row-placed, one-record, one_left}
+use Rattle.refusal.specs.declared.Refusal.{Refusal}
+use Rattle.routing.specs.declared.Callee.{Callee}
 
 -- ---- one operation on a row
 
@@ -148,12 +150,15 @@ done-rows b (x ∷ xs) = done-rows (bytes_of b x) xs ∙ ap (λ (l : List Call).
 
 module _ (row : List Call) (p : Plan) (s : Setup) (n m r u : ℕ) (it : CallPlaced row p s n m r u) where
   row_is : row_after row p s n m ≡ (turn row place).row
-  row_is = ap (λ (o : Outcome). (turned row o).row) it.routed
+  row_is = ap (λ (o : (Result Callee Refusal)). (turned row o).row) it.routed
+
+  given : (lowest_free row ≡ it.given.record_number) × (next_use (record_at row (lowest_free row)).use_number ≡ it.given.use_number)
+  given = given-is row (answer_in row p s n m) it.given_is
 
   -- what placing answers is the row's reply
   reply-is : (turn row place).reply ≡ placed_at r u
   reply-is = elim (came-by (sound p) row p s n m) as (λ _. (turn row place).reply ≡ placed_at r u) [
-    | routing-to d none e ↦ ap (λ (t : Turn). t.reply) (places row none) ∙ ap₂ placed_at (rw (e, places row none) at it.record_is) (rw (e, places row none) at it.use_is)
+    | routing-to d none e ↦ ap (λ (t : Turn). t.reply) (places row none) ∙ ap₂ placed_at (given.0 ∙ it.record_is) (given.1 ∙ it.use_is)
     | refusing-by y e ↦ absurd (not-routed (sym e ∙ it.routed))
   ]
 
@@ -163,7 +168,7 @@ module _ (b : List ℕ) (p : Plan) (s : Setup) (n m r u : ℕ) (xs : List Operat
 
   -- the row of the bytes, by its acts
   by-acts : CallPlaced (row_in b) p s n m r u → row_in (bytes_done b (placing p s n m ∷ xs)) ≡ turns (row_in b) (place ∷ acts)
-  by-acts it = done-rows b (placing p s n m ∷ xs) ∙ as-acts (row_in b) (placing p s n m ∷ xs) ∙ ap (λ (o : Outcome). turns (row_in b) (act_by o ++ acts)) it.routed
+  by-acts it = done-rows b (placing p s n m ∷ xs) ∙ as-acts (row_in b) (placing p s n m ∷ xs) ∙ ap (λ (o : (Result Callee Refusal)). turns (row_in b) (act_by o ++ acts)) it.routed
 
   call_in : (ks : List Command) → CallInBytes b p s n m r u xs ks → CallIn (row_in b) r u acts ks
   call_in ks h = record {

@@ -1,13 +1,17 @@
 -- The records of some bytes: how many, which, the lowest free one, and what a command, a call placed or clearing make of them. Assumes nothing.
-use Rattle.std.proofs.Common.{◌≡◌, ℕ, zero, suc, ◌+◌, ◌-◌, ◌*◌, ◌/◌, ◌%◌, ◌<◌, ◌≤◌, Bool, true, false, cond, ◌&&◌, eqb, List, [], ◌∷◌, ◌++◌, length, get_or, drop, set, replicate, sym, refl, ap, ◌∙◌, subst, ap₂, append_assoc, le_of_suc-le-suc, not-suc-le-zero, add-one, arith, lit≤, length-append, length-drop, drop-cons, set-set, le-ltb, lt-ltb}
-use lib.ListN.{length-replicate, get_or-replicate, replicate-append-replicate, get_or-eq_default, get_or-append}
-use lib.Seq.{sets, length-sets, set_comm, set_at}
+use Rattle.std.proofs.Common.{◌≡◌, ℕ, zero, suc, ◌+◌, ◌-◌, ◌*◌, ◌/◌, ◌%◌, ◌<◌, ◌≤◌, Bool, true, false, cond, ◌&&◌, eqb, List, [], ◌∷◌, ◌++◌, length, get_or, drop, set, replicate, sym, refl, ap, ◌∙◌, subst, ap₂, append_assoc, le_of_suc-le-suc, not-suc-le-zero, arith, lit≤, length-append, length-drop, set-set, le-ltb, lt-ltb}
+use lib.ListN.{length-replicate, get_or-replicate, get_or-eq_default, get_or-append}
+use borrow.Rule.Slice.PartMut.{put_mid}
+use Rattle.std.proofs.lemmas.Slice.{put_mid-paste}
+use Rattle.std.proofs.lemmas.List.Edits.{paste_all}
+use Rattle.std.proofs.lemmas.List.{length-take-le}
+use lib.ListN.{take}
+use lib.Seq.{sets, sets-eq, length-sets, set_comm}
 use Rattle.ends.specs.declared.State.TheVariants.{Idle, Requesting, Waiting, Linked, Unlinking}
 use Rattle.signalbytes.specs.Numbers.{state_said}
 use Rattle.call.specs.declared.Call.{Call}
 use Rattle.call.specs.Protocol.{cleared, is_idle, is_free, quiet}
 use Rattle.call.specs.Row.{record_at, lowest_free}
-use Rattle.setupbytes.proofs.Stores.{put_next}
 use Rattle.recordbytes.specs.Records.{slots_from, bytes_from, call_at}
 use Rattle.recordbytes.specs.Steps.{Outside, in_front, behind}
 use Rattle.recordbytes.proofs.Places as stores
@@ -148,12 +152,16 @@ from-0 b j = let e : 0 + j ≡ j = omega arith in rw e refl
 
 -- ---- a call placed
 
--- a loop that stores 614 times 0: the next one
-pub blank-next : (b : List ℕ) (at i : ℕ) → i < 614
-    → sets b (at + i) (drop i (replicate 614 0)) ≡ sets (set b (at + i) 0) (at + (i + 1)) (drop (i + 1) (replicate 614 0))
-blank-next b at i h =
-    let below : i < length (replicate {A = ℕ} 614 0) = h in
-    put_next b (replicate 614 0) at i below ∙ rw (get_or-replicate {A = ℕ} 614 i 0 0 h) refl
+-- n bytes set to 0
+pub blanked : (n : ℕ) (row : List ℕ) (at : ℕ) (ys : List ℕ) → at + n ≤ length row → ys ≡ replicate (length (take (at + n - at) (drop at row))) 0
+    → put_mid at (at + n - at) row ys ≡ sets row at (replicate n 0)
+blanked n row at ys h e =
+    let k : at + n - at ≡ n = omega arith in
+    let l : length (take n (drop at row)) ≡ n = length-take-le n (drop at row) (simp length-drop (omega arith)) in
+    let zeros : List ℕ = replicate n 0 in
+    let m : n ≡ length zeros = sym (length-replicate n 0) in
+    let room : at + length zeros ≤ length row = omega arith in
+    rw k (put_mid-paste at n row ys zeros n (rw (k, l) at e) refl m ∙ paste_all row at zeros n m ∙ sym (rw append_assoc at (rw (length-replicate {A = ℕ} n 0) at (sets-eq zeros row at room))))
 
 -- what is set below a run of stores may be set before it
 set_below : (ys l : List ℕ) (i j v : ℕ) → i < j → set (sets l j ys) i v ≡ sets (set l i v) j ys
@@ -202,13 +210,6 @@ row-placed-in b r n h u =
     same j (behind l) = stores.past (placed_bytes n) b (614 * r) j l
 
 -- ---- all cleared
-
-pub zeros-next : (b : List ℕ) (i : ℕ) → i < length b → set (replicate i 0 ++ drop i b) i 0 ≡ replicate (i + 1) 0 ++ drop (i + 1) b
-zeros-next b i h =
-    ap (λ (l : List ℕ). set (replicate i 0 ++ l) i 0) (drop-cons b i 0 h)
-    ∙ set_at (replicate i 0) (get_or b i 0) (drop (suc i) b) 0 i (length-replicate i 0)
-    ∙ sym (append_assoc (replicate i 0) (0 ∷ []) (drop (suc i) b))
-    ∙ rw (replicate-append-replicate {A = ℕ} i 1 0, add-one i) refl
 
 pub zeros-all : (b : List ℕ) → replicate (records_in b * 614) 0 ++ drop (records_in b * 614) b ≡ cleared_in b
 unfolding cleared_in

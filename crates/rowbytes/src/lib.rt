@@ -2,7 +2,7 @@
 // record is found, and a call placed in it. Nothing else is touched, and no refusal changes a byte.
 #![tactic(auto)]
 
-ghost use Rattle.std.specs.Prelude.{◌≡◌, ◌+◌, ◌<◌, ◌≤◌, true, [], ◌∷◌, length, replicate};
+ghost use Rattle.std.specs.Prelude.{◌≡◌, ◌+◌, ◌<◌, ◌≤◌, true, [], ◌∷◌, Err, length, replicate};
 ghost use Rattle.std.proofs.lemmas.List.Edits.{sets};
 ghost use Rattle.plan.specs.declared.Plan.{Plan};
 ghost use Rattle.plan.specs.Find.{seen};
@@ -10,7 +10,6 @@ ghost use Rattle.routing.specs.Steps.{target1};
 ghost use Rattle.routing.specs.Routing.{source_list_after, target_list_after};
 ghost use Rattle.routing.specs.Places.{KeptBeside};
 ghost use Rattle.call.specs.Protocol.{is_free, step, cleared};
-ghost use Rattle.call.specs.declared.Answer.TheVariants.{Refused};
 ghost use Rattle.call.specs.Row.{lowest_free, record_at, command as by-command, turn};
 ghost use Rattle.placing.specs.Rows.{outcome_in_by, placed_in_by, row_after_by, turned};
 ghost use Rattle.recordbytes.specs.Records.{call_at};
@@ -23,7 +22,6 @@ use placing::Placed;
 use plan::Seen;
 use recordbytes::Commanded;
 use refusal::Refusal;
-use routing::Outcome;
 use setup::Setup;
 
 // ---- a record of the row
@@ -33,40 +31,29 @@ fn free_in(row: &[u8], at: usize) -> bool
     requires { at + 614 ≤ length row.now }
     ensures { result ≡ is_free (call_at row.now at) }
 {
-    if row[at] != 0 {
-        return false;
-    }
-    row[at + 1] == 0
+    row[at] == 0 && row[at + 1] == 0
 }
 
-// The lowest free record; how many there are where none is free.
+// The lowest free record; how many there are where none is free, as `lowest_free` (call/Row) says it. By number: a record is 614 bytes from a place on.
 pub fn lowest_free(row: &[u8]) -> usize
     ensures { result ≡ lowest_free (row_in row.now) }
 {
     let n = row.len() / 614;
-    let mut i: usize = 0;
-    while i < n {
+    for i in 0..n {
         if free_in(row, 614 * i) {
             return i;
         }
-        i += 1;
     }
-    i
+    n
 }
 
-fn wide(b: u8) -> u16
-    ensures { (result ≡ b) × (result < 256) }
-{
-    b as u16
-}
-
-// The use number of a record, by its two bytes; 0 where the row has no such record. A row's operations need no more of a record than this and its states, so that none is read whole.
+// The use number of a record, by its two bytes; 0 where the row has no such record, as a missing record is a cleared one (`record_at`). A row's operations need no more of a record than this and its states, so that none is read whole.
 fn use_at(row: &[u8], r: usize) -> u16
     ensures { result ≡ (record_at (row_in row.now) r).use_number }
 {
     if r < row.len() / 614 {
         let at = 614 * r;
-        wide(row[at + 2]) * 256 + wide(row[at + 3])
+        u16::from_be_bytes([row[at + 2], row[at + 3]])
     } else {
         0
     }
@@ -79,58 +66,48 @@ pub fn clear(row: &mut [u8])
     ensures { (row.new ≡ cleared_in row.old) × (row_in row.new ≡ replicate (records_in row.old) cleared) }
 {
     let end = row.len() / 614 * 614;
-    let mut i: usize = 0;
-    while i < end {
-        row[i] = 0;
-        i += 1;
-    }
+    row[..end].fill(0);
 }
 
 // ---- commands
 
-// Where the record of a command stands, or why there is none.
-#[derive(Clone, Copy)]
-enum Found {
-    Refuse(Refusal),
-    At(usize),
-}
-
 // The record r, where it is not free and of this use: 16, 10.
 #[tactic(auto, using(crate::proofs::Turns::found_cases))]
-fn found_named(row: &[u8], r: usize, use_number: u16) -> Found
+fn found_named(row: &[u8], r: usize, use_number: u16) -> Result<usize, Refusal>
     ensures { result ≡ found_in true row.now r use_number }
 {
     let n = row.len() / 614;
     if 1024 < n {
-        return Found::Refuse(Refusal::RowTooLong);
+        return Err(Refusal::RowTooLong);
     }
     if n <= r {
-        return Found::Refuse(Refusal::NoSuchCall);
+        return Err(Refusal::NoSuchCall);
     }
     let at = 614 * r;
     if free_in(row, at) {
-        return Found::Refuse(Refusal::NoSuchCall);
+        return Err(Refusal::NoSuchCall);
     }
     if use_at(row, r) != use_number {
-        return Found::Refuse(Refusal::NoSuchCall);
+        return Err(Refusal::NoSuchCall);
     }
-    Found::At(at)
+    Ok(at)
 }
 
-fn look(row: &[u8], named: bool, r: usize, use_number: u16) -> Found
+fn look(row: &[u8], named: bool, r: usize, use_number: u16) -> Result<usize, Refusal>
     ensures { result ≡ found_in named row.now r use_number }
 {
     if named {
-        return found_named(row, r, use_number);
+        found_named(row, r, use_number)
+    } else {
+        Ok(0)
     }
-    Found::At(0)
 }
 
 // A refusal as a word: its number.
 fn refused(x: Refusal) -> u64
-    ensures { in_word result ≡ commanded_said (Refused x) }
+    ensures { in_word result ≡ commanded_said (Err x) }
 {
-    x.number() as u64
+    u64::from(x.number())
 }
 
 // A command for the record r and this use number; or, where it is not `named`, for a port's record, which is the first. Rows and ports share this function, so that the compiler puts all of a command into one; the answer is one word, which stays in a register.
@@ -148,14 +125,13 @@ fn command_for(
     ensures { (in_word result ≡ commanded_said (commanded_by (found_in named row.old r use_number) row.old (command_of kind side signal tunnel code)).answer)
         × (row.new ≡ (commanded_by (found_in named row.old r use_number) row.old (command_of kind side signal tunnel code)).bytes) }
 {
-    let f = look(row, named, r, use_number);
-    match f {
-        Found::Refuse(x) => refused(x),
-        Found::At(at) => recordbytes::command_at(row, at, kind, side, signal, tunnel, code),
+    match look(row, named, r, use_number) {
+        Err(x) => refused(x),
+        Ok(at) => recordbytes::command_at(row, at, kind, side, signal, tunnel, code),
     }
 }
 
-// A command for the record r and this use number. It is told by numbers (recordbytes/specs/Numbers), and so is the answer.
+// A command for the record r and this use number. It is told by numbers (recordbytes/specs/Numbers), as C gives them, and so is the answer.
 pub fn command(
     row: &mut [u8],
     r: usize,
@@ -180,11 +156,7 @@ fn blank(row: &mut [u8], at: usize)
     requires { at + 614 ≤ length row.old }
     ensures { row.new ≡ sets row.old at (replicate 614 0) }
 {
-    let mut i: usize = 0;
-    while i < 614 {
-        row[at + i] = 0;
-        i += 1;
-    }
+    row[at..at + 614].fill(0);
 }
 
 // A call placed under this use number is stored, where the row has the record: the caller requests, the callee waits, and nothing waits for either, so that all past the first four bytes is 0.
@@ -193,11 +165,12 @@ fn put_placed(row: &mut [u8], r: usize, use_number: u16)
 {
     if r < row.len() / 614 {
         let at = 614 * r;
+        let [high, low] = use_number.to_be_bytes();
         blank(row, at);
         row[at] = 1;
         row[at + 1] = 2;
-        row[at + 2] = (use_number / 256 % 256) as u8;
-        row[at + 3] = (use_number % 256) as u8;
+        row[at + 2] = high;
+        row[at + 3] = low;
     }
 }
 
@@ -210,36 +183,26 @@ pub fn place(
     out: Setup,
     source_list: &mut [u8],
     target_list: &mut [u8],
-) -> Placed
+) -> Result<Placed, Refusal>
     ensures value { (p : Plan) → seen p out.source (target1 out) ≡ v
         → (result ≡ placed_in_by kept (row_in row.old) p out (length source_list.old) (length target_list.old))
         × (row.new ≡ placed_by (turned (row_in row.old) (outcome_in_by kept (row_in row.old) p out (length source_list.old) (length target_list.old))).reply row.old)
         × (row_in row.new ≡ row_after_by kept (row_in row.old) p out (length source_list.old) (length target_list.old))
         × (source_list.new ≡ source_list_after p out (outcome_in_by kept (row_in row.old) p out (length source_list.old) (length target_list.old)) source_list.old)
         × (target_list.new ≡ target_list_after p out (outcome_in_by kept (row_in row.old) p out (length source_list.old) (length target_list.old)) target_list.old) }
-    ensures unchanged { KeptBeside result.routed.outcome row.old row.new × KeptBeside result.routed.outcome source_list.old source_list.new × KeptBeside result.routed.outcome target_list.old target_list.new }
+    ensures unchanged { KeptBeside result row.old row.new × KeptBeside result source_list.old source_list.new × KeptBeside result target_list.old target_list.new }
 {
     let n = row.len() / 614;
     let r = lowest_free(row);
     let later = placing::later_for(n, r);
-    let a = routing::route_seen(kept, v, out, later, source_list, target_list);
-    let o = a.outcome;
-    match o {
-        Outcome::Routed(_) => {
-            let use_number = std::num::wrapping_add_u16(use_at(row, r), 1);
-            put_placed(row, r, use_number);
-            Placed {
-                record_number: r,
-                use_number,
-                routed: a,
-            }
-        }
-        Outcome::Refused(_) => Placed {
-            record_number: 0,
-            use_number: 0,
-            routed: a,
-        },
-    }
+    let routed = routing::route_seen(kept, v, out, later, source_list, target_list)?;
+    let use_number = use_at(row, r).wrapping_add(1);
+    put_placed(row, r, use_number);
+    Ok(Placed {
+        record_number: r,
+        use_number,
+        routed,
+    })
 }
 
 // ---- a port: a row of one
@@ -269,14 +232,14 @@ pub fn port_place(
     out: Setup,
     source_list: &mut [u8],
     target_list: &mut [u8],
-) -> Placed
+) -> Result<Placed, Refusal>
     ensures value { (p : Plan) → seen p out.source (target1 out) ≡ v
         → (result ≡ placed_in_by kept (call_at port.old 0 ∷ []) p out (length source_list.old) (length target_list.old))
         × (port.new ≡ placed_by (turned (call_at port.old 0 ∷ []) (outcome_in_by kept (call_at port.old 0 ∷ []) p out (length source_list.old) (length target_list.old))).reply port.old)
         × (call_at port.new 0 ≡ record_at (row_after_by kept (call_at port.old 0 ∷ []) p out (length source_list.old) (length target_list.old)) 0)
         × (source_list.new ≡ source_list_after p out (outcome_in_by kept (call_at port.old 0 ∷ []) p out (length source_list.old) (length target_list.old)) source_list.old)
         × (target_list.new ≡ target_list_after p out (outcome_in_by kept (call_at port.old 0 ∷ []) p out (length source_list.old) (length target_list.old)) target_list.old) }
-    ensures unchanged { KeptBeside result.routed.outcome port.old port.new × KeptBeside result.routed.outcome source_list.old source_list.new × KeptBeside result.routed.outcome target_list.old target_list.new }
+    ensures unchanged { KeptBeside result port.old port.new × KeptBeside result source_list.old source_list.new × KeptBeside result target_list.old target_list.new }
 {
     place(kept, port, v, out, source_list, target_list)
 }

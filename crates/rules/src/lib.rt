@@ -12,32 +12,26 @@ use plan::{Subscriber, Types};
 // ---- the five sets
 
 // L1
+#[tactic(auto, unfolding(plan::specs::Rules::types_exist))]
 fn types_exist(t: Types) -> bool
     ensures { result ≡ types_exist t }
 {
-    if !typeset::within(t.bound, t.existing) {
-        return false;
-    }
-    if !typeset::within(t.reversible, t.existing) {
-        return false;
-    }
-    if !typeset::within(t.source_choice, t.existing) {
-        return false;
-    }
-    typeset::within(t.target_choice, t.existing)
+    typeset::within(t.bound, t.existing)
+        && typeset::within(t.reversible, t.existing)
+        && typeset::within(t.source_choice, t.existing)
+        && typeset::within(t.target_choice, t.existing)
 }
 
 // L6
+#[tactic(auto, unfolding(plan::specs::Rules::reversible_in_both))]
 fn reversible_in_both(t: Types) -> bool
     ensures { result ≡ reversible_in_both t }
 {
-    if !typeset::within(t.reversible, t.source_choice) {
-        return false;
-    }
-    typeset::within(t.reversible, t.target_choice)
+    typeset::within(t.reversible, t.source_choice) && typeset::within(t.reversible, t.target_choice)
 }
 
 // L7
+#[tactic(auto, unfolding(plan::specs::Rules::bound_in_both))]
 fn bound_in_both(t: Types) -> bool
     ensures { result ≡ bound_in_both t }
 {
@@ -47,53 +41,44 @@ fn bound_in_both(t: Types) -> bool
 }
 
 // Whether the five sets keep their rules.
+#[tactic(auto, unfolding(plan::specs::Sound::types_sound))]
 pub fn types_sound(t: Types) -> bool
     ensures { result ≡ types_sound t }
 {
-    if !types_exist(t) {
-        return false;
-    }
-    if !reversible_in_both(t) {
-        return false;
-    }
-    bound_in_both(t)
+    types_exist(t) && reversible_in_both(t) && bound_in_both(t)
 }
 
 // ---- the orders
 
 // Whether the source order keeps its rules, with the five sets.
+#[tactic(auto, unfolding(plan::specs::Sound::source_sound))]
 pub fn source_sound(t: Types, source: &[u32; 32]) -> bool
     ensures { result ≡ source_sound t source.now }
 {
-    if !order::order_sound(t.source_choice, source) {
-        return false;
-    }
-    order::reversible_ordered(t.reversible, source)
+    order::order_sound(t.source_choice, source) && order::reversible_ordered(t.reversible, source)
 }
 
 // Whether the target order keeps its rules, with the five sets and the source order.
+#[tactic(auto, unfolding(plan::specs::Sound::target_sound))]
 pub fn target_sound(t: Types, source: &[u32; 32], target: &[u32; 32]) -> bool
     ensures { result ≡ target_sound t source.now target.now }
 {
-    if !order::order_sound(t.target_choice, target) {
-        return false;
-    }
-    order::reversible_opposed(t.reversible, source, target)
+    order::order_sound(t.target_choice, target)
+        && order::reversible_opposed(t.reversible, source, target)
 }
 
 // ---- a subscriber by itself
 
 // L10
+#[tactic(auto, unfolding(plan::specs::Rules::kind_known))]
 fn kind_known(s: Subscriber) -> bool
     ensures { result ≡ kind_known s }
 {
-    if s.kind < 1 {
-        return false;
-    }
-    s.kind <= 4
+    1 <= s.kind && s.kind <= 4
 }
 
 // L11
+#[tactic(auto, unfolding(plan::specs::Rules::address_given))]
 fn address_given(s: Subscriber) -> bool
     ensures { result ≡ address_given s }
 {
@@ -101,43 +86,30 @@ fn address_given(s: Subscriber) -> bool
 }
 
 // L12. The kinds are told apart by ranges: tests for one kind after the other are compiled to a jump through a table, which costs more.
+#[tactic(auto, unfolding(plan::specs::Rules::count_fits))]
 fn count_fits(s: Subscriber) -> bool
     ensures { result ≡ count_fits s }
 {
-    let kind = s.kind;
-    let count = s.count;
+    let Subscriber { kind, count, .. } = s;
     if kind < 2 {
-        if kind == 1 {
-            return count == 1;
-        }
-        return true;
+        kind != 1 || count == 1
+    } else if kind < 4 {
+        count <= 4 && (kind != 3 || 0 < count)
+    } else {
+        kind != 4 || count == 0
     }
-    if kind < 4 {
-        if 4 < count {
-            return false;
-        }
-        if kind == 3 {
-            return 0 < count;
-        }
-        return true;
-    }
-    if kind == 4 {
-        return count == 0;
-    }
-    true
 }
 
 // L14
+#[tactic(auto, unfolding(plan::specs::Rules::sets_in_choices))]
 fn sets_in_choices(t: Types, s: Subscriber) -> bool
     ensures { result ≡ sets_in_choices t s }
 {
-    if !typeset::within(s.source, t.source_choice) {
-        return false;
-    }
-    typeset::within(s.target, t.target_choice)
+    typeset::within(s.source, t.source_choice) && typeset::within(s.target, t.target_choice)
 }
 
 // L15
+#[tactic(auto, unfolding(plan::specs::Rules::reversible_twice))]
 fn reversible_twice(t: Types, s: Subscriber) -> bool
     ensures { result ≡ reversible_twice t s }
 {
@@ -147,28 +119,21 @@ fn reversible_twice(t: Types, s: Subscriber) -> bool
 }
 
 // L16 at the places x and y.
+#[tactic(auto, unfolding(plan::specs::Steps::differs_from))]
 fn differs_from(s: Subscriber, x: usize, y: usize) -> bool
     requires { (x < 4) × (y < 4) }
     ensures { result ≡ differs_from s x y }
 {
-    let boxes = s.boxes;
-    if x < s.count as usize {
-        boxes[x] != boxes[y]
-    } else {
-        true
-    }
+    s.count as usize <= x || s.boxes[x] != s.boxes[y]
 }
 
+// L16 at the place x. By number: each place before x is itself asked about.
+#[tactic(auto, unfolding(plan::specs::Steps::differs_at))]
 fn differs_at(s: Subscriber, x: usize) -> bool
     requires { x < 4 }
     ensures { result ≡ differs_at s x }
 {
-    for y in 0usize..x {
-        if !differs_from(s, x, y) {
-            return false;
-        }
-    }
-    true
+    (0usize..x).all(|y| differs_from(s, x, y))
 }
 
 // Whether a number of 16 bits can be a box number: 1 to 65,535.
@@ -179,33 +144,28 @@ fn box_number(n: u16) -> bool
 }
 
 // L13, L16 and L20 at the place x: a number of the subscriber's, or 0 past its count.
+#[tactic(auto, unfolding(plan::specs::Steps::box_sound))]
 fn box_sound(s: Subscriber, x: usize) -> bool
     requires { x < 4 }
     ensures { result ≡ box_sound s x }
 {
-    let boxes = s.boxes;
     if x < s.count as usize {
-        if !box_number(boxes[x]) {
-            return false;
-        }
-        differs_at(s, x)
+        box_number(s.boxes[x]) && differs_at(s, x)
     } else {
-        boxes[x] == 0
+        s.boxes[x] == 0
     }
 }
 
+// L13, L16 and L20 at each place. By number: the place is itself asked about, beside the count.
+#[tactic(auto, unfolding(plan::specs::Sound::boxes_sound))]
 fn boxes_sound(s: Subscriber) -> bool
     ensures { result ≡ boxes_sound s }
 {
-    for x in 0usize..4usize {
-        if !box_sound(s, x) {
-            return false;
-        }
-    }
-    true
+    (0usize..4).all(|x| box_sound(s, x))
 }
 
 // Whether a subscriber by itself keeps its rules, with the five sets.
+#[tactic(auto, unfolding(plan::specs::Sound::own_sound))]
 pub fn own_sound(t: Types, s: Subscriber) -> bool
     ensures { result ≡ own_sound t s }
 {
@@ -217,65 +177,44 @@ pub fn own_sound(t: Types, s: Subscriber) -> bool
         & boxes_sound(s)
 }
 
-// Whether both hold. Both are worked out before the call, so the compiler makes no branch: a branch would pass over the second test, and one that the machine guesses wrong
-// costs more than the test.
+// Whether both hold. Both are worked out, so the compiler makes no branch: a branch would pass over the second test, and one that the machine guesses wrong costs more than the test. It stays beside `&`, since it is public and `soundness` calls it.
 pub fn both(a: bool, b: bool) -> bool
     ensures { result ≡ (a && b) }
 {
-    if a { b } else { false }
+    a & b
 }
 
 // L13 and L16: each place has a number, and none that a place before it has. A line has one number and a mobile none; two or more are tested all at once, without a branch for each.
 fn numbers_listed(s: Subscriber) -> bool
     ensures { result ≡ (numbers_given s && numbers_differ s) }
 {
-    let boxes = s.boxes;
+    let [first, second, third, fourth] = s.boxes;
     if s.count == 0 {
         return true;
     }
-    let first = boxes[0];
     if s.count == 1 {
         return box_number(first);
     }
-    let second = boxes[1];
-    let two = both(both(box_number(first), box_number(second)), second != first);
+    let two = box_number(first) & box_number(second) & (second != first);
     if s.count == 2 {
         return two;
     }
-    let third = boxes[2];
-    let three = both(
-        two,
-        both(box_number(third), both(third != first, third != second)),
-    );
+    let three = two & box_number(third) & (third != first) & (third != second);
     if s.count == 3 {
         return three;
     }
-    let fourth = boxes[3];
-    let alone = both(
-        both(box_number(fourth), fourth != first),
-        both(fourth != second, fourth != third),
-    );
-    both(three, alone)
+    three & box_number(fourth) & (fourth != first) & (fourth != second) & (fourth != third)
 }
 
 // As own_sound, for a reader that has put the zeros past the subscriber's count there itself: those places are not looked at.
+#[tactic(auto, unfolding(plan::specs::Sound::listed_sound))]
 pub fn listed_sound(t: Types, s: Subscriber) -> bool
     ensures { result ≡ listed_sound t s }
 {
-    if !kind_known(s) {
-        return false;
-    }
-    if !address_given(s) {
-        return false;
-    }
-    if !count_fits(s) {
-        return false;
-    }
-    if !sets_in_choices(t, s) {
-        return false;
-    }
-    if !reversible_twice(t, s) {
-        return false;
-    }
-    numbers_listed(s)
+    kind_known(s)
+        && address_given(s)
+        && count_fits(s)
+        && sets_in_choices(t, s)
+        && reversible_twice(t, s)
+        && numbers_listed(s)
 }

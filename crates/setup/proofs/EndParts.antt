@@ -1,49 +1,44 @@
--- An end part of a zone place by place, as the loop of `list_fits` goes through it. Assumes nothing.
-use mathlib.Core.Path.{◌≡◌, sym, ◌∙◌}
-use mathlib.Core.Bool.{false, and-false}
-use Prim.Native.Nat.{ℕ, ◌+◌, ◌-◌, ◌≤◌, ◌<◌, min}
+-- An end part of a zone is what `ends_with` finds. Assumes nothing.
+use mathlib.Core.Path.{◌≡◌, refl, sym, ap, ◌∙◌}
+use mathlib.Core.Bool.{Bool, true, false, ◌&&◌, and-false}
+use mathlib.Core.List.{List, [], ◌∷◌}
+use mathlib.Core.Logic.{⊎_elim}
+use Prim.Native.Nat.{ℕ, ◌+◌, ◌-◌, ◌≤◌, ◌<◌}
 use native.Mathlib.Omega.{arith}
 use lib.Dec.{eqb, leb}
-use lib.ListN.{length, get_or}
-use lib.Seq.{get_or-take}
+use lib.ListN.{length, get_or, drop, length-drop}
 use borrow.Author.Tests.{le-leb, lt-leb}
+use Rattle.std.proofs.lemmas.List.{get_or-drop}
+use Rattle.std.specs.Prelude.{nat_eq}
+use Rattle.std.specs.List.{ends_with}
+use Rattle.std.specs.Cmp.Lexicographic.{pointwise}
 use Rattle.typeset.specs.Sets.{every}
 use Rattle.typeset.proofs.Below.{every-ext}
-use Rattle.zone.specs.declared.Zone.{Zone}
-use Rattle.setup.specs.Setups.{list_of, end_part, list_fits}
-use Rattle.setup.proofs.Stored.{cut-length}
+use Rattle.typeset.proofs.Laws.{split}
+use Rattle.setup.specs.Setups.{end_part}
 
-module _ (zone list : Zone) (m : ℕ) (fits-zone : m ≡ min zone.len 32) (places : length zone.types ≡ 32) (places' : length list.types ≡ 32) where
-  -- the list is longer than any
-  pub list-too-long : 32 < list.len → list_fits (list_of zone) list ≡ false
-  unfolding list_fits
-  list-too-long h = rw (lt-leb list.len 32 h)
+-- two lists of one length, place by place
+pointwise-every : (l m : List ℕ) → length l ≡ length m → pointwise nat_eq l m ≡ every (length l) (λ i. eqb (get_or l i 0) (get_or m i 0))
+unfolding every
+pointwise-every [] [] e = refl
+pointwise-every (x ∷ l) (y ∷ m) e = ap (λ (b : Bool). nat_eq x y && b) (pointwise-every l m (omega (arith, e)))
+pointwise-every [] (y ∷ m) e = absurd (omega (arith, e))
+pointwise-every (x ∷ l) [] e = absurd (omega (arith, e))
 
-  module _ (short : list.len ≤ 32) where
-    list_length : length (list_of list) ≡ list.len
-    unfolding list_of
-    list_length = cut-length list.len list.types places' ∙ omega arith
+-- a longer list is no part of a shorter one
+pointwise-short : (l m : List ℕ) → length m < length l → pointwise nat_eq l m ≡ false
+pointwise-short [] m h = absurd (omega (arith, h))
+pointwise-short (x ∷ l) [] h = refl
+pointwise-short (x ∷ l) (y ∷ m) h = ap (λ (b : Bool). nat_eq x y && b) (pointwise-short l m (omega (arith, h))) ∙ and-false (nat_eq x y)
 
-    zone-length : length (list_of zone) ≡ m
-    unfolding list_of
-    zone-length = cut-length zone.len zone.types places ∙ sym fits-zone
-
-    -- it is longer than the zone
-    pub list-longer : m < list.len → list_fits (list_of zone) list ≡ false
-    unfolding list_fits end_part
-    list-longer h = rw (list_length, zone-length, lt-leb list.len m h) (and-false (leb list.len 32))
-
-    same_place : (i : ℕ) → list.len ≤ m → i < list.len → eqb (get_or (list_of list) i 0) (get_or (list_of zone) (m - list.len + i) 0)
-        ≡ eqb (get_or list.types i 0) (get_or zone.types (m - list.len + i) 0)
-    unfolding list_of
-    same_place i h l =
-        let low : m - list.len + i < zone.len = omega arith in
-        rw (get_or-take list.len list.types i 0 l, get_or-take zone.len zone.types (m - list.len + i) 0 low)
-
-    -- it is compared with the zone's last places
-    pub list-places : list.len ≤ m
-        → list_fits (list_of zone) list ≡ every list.len (λ i. eqb (get_or list.types i 0) (get_or zone.types (m - list.len + i) 0))
-    unfolding list_fits end_part
-    list-places h =
-        rw (le-leb list.len 32 short, list_length, zone-length, le-leb list.len m h)
-        (every-ext list.len _ _ (λ i l. same_place i h l))
+pub ends-with-part : (l z : List ℕ) → ends_with nat_eq z l ≡ end_part l z
+unfolding end_part
+ends-with-part l z =
+    ⊎_elim
+    (λ (h : length z < length l).
+    let none : length z - length l ≡ 0 = omega (arith, h) in
+    rw (lt-leb (length l) (length z) h, none) (pointwise-short l z h))
+    (λ (h : length l ≤ length z).
+    let size : length l ≡ length (drop (length z - length l) z) = simp length-drop (omega arith) in
+    rw (le-leb (length l) (length z) h) (pointwise-every l (drop (length z - length l) z) size ∙ every-ext (length l) _ _ (λ i k. rw (get_or-drop (length z - length l) z i 0))))
+    (split (length z) (length l))

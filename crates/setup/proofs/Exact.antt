@@ -27,6 +27,8 @@ use Rattle.setup.proofs.listed.Reads as listed
 use Rattle.setup.proofs.listed.Kinds as listed-kinds
 use Rattle.setup.proofs.list_length.Reads as list_length
 use Rattle.setup.proofs.blank_setup.Reads as blank-setup
+use Rattle.setup.proofs.Dialled.as_slice.Reads as as-slice
+use Rattle.setup.proofs.Dialled.as_slice.Kinds as as-slice-kinds
 
 pub symbol-exact : (code : ℕ) (r s : Bool) → symbol.Post tt (code, tt) r (code, tt) → symbol.Post tt (code, tt) s (code, tt) → r ≡ s
 symbol-exact code r s p q = p ∙ sym q
@@ -66,3 +68,7 @@ list-length-exact z r s p q = p ∙ sym q
 
 pub blank-setup-exact : (r s : Setup) → blank-setup.Post tt tt r tt → blank-setup.Post tt tt s tt → r ≡ s
 blank-setup-exact r s p q = p ∙ sym q
+
+pub as-slice-exact : (κs : Lfts 1) (self : Bor Dialled) (end : AtExit (ended_of 1 as-slice-kinds.ps as-slice-kinds.r) κs) (r s : Bor (List ℕ))
+    → as-slice.Post κs (self, tt) r end → as-slice.Post κs (self, tt) s end → r.now ≡ s.now
+as-slice-exact κs self end r s p q = p ∙ sym q

@@ -1,7 +1,7 @@
 -- What a well-formed setup keeps, and that a setup which keeps it all is well formed; legal strings as a setup holds them. Assumes nothing.
-use mathlib.Core.Path.{◌≡◌, refl}
+use mathlib.Core.Path.{◌≡◌, refl, ap, sym}
 use mathlib.Core.Logic.{⊎_elim, ◌↔◌}
-use mathlib.Core.Bool.{true, false, cond, false≢true}
+use mathlib.Core.Bool.{Bool, not, true, false, cond, false≢true, Bool, ◌&&◌}
 use mathlib.Core.List.{List}
 use Prim.Native.Nat.{ℕ, ◌-◌, ◌≤◌, ◌<◌}
 use native.Mathlib.Omega.{arith}
@@ -11,7 +11,7 @@ use lib.Seq.{get_or-take}
 use borrow.Author.Tests.{leb-true, le-leb}
 use Rattle.typeset.specs.Sets.{every}
 use Rattle.typeset.proofs.Bools.{yes_or_no, and_left, and_right, and-make}
-use Rattle.typeset.proofs.Below.{every-at, every_of}
+use Rattle.typeset.proofs.Below.{every-at, every_of, every-ext}
 use Rattle.plan.specs.declared.Plan.{Plan}
 use Rattle.zone.specs.Answer.{zone_at}
 use Rattle.setup.specs.declared.Dialled.{Dialled}
@@ -19,8 +19,9 @@ use Rattle.zone.specs.declared.Zone.{Zone}
 use Rattle.setup.specs.declared.Route.{Route}
 use Rattle.setup.specs.declared.Route.TheVariants.{Whole, Suffix, Listed}
 use Rattle.setup.specs.declared.Setup.{Setup}
+use Rattle.std.specs.Prelude.{Option, Some, None, is_some}
 use Rattle.setup.specs.declared.Fault.{Fault}
-use Rattle.setup.specs.declared.Fault.TheVariants.{WellFormed, BadAddressOrString, NoRoutingAddress, NoEndPart, WrongPlacing, WrongOuter}
+use Rattle.setup.specs.declared.Fault.TheVariants.{BadAddressOrString, NoRoutingAddress, NoEndPart, WrongPlacing, WrongOuter}
 use Rattle.setup.specs.FaultNumber.{number_of_fault}
 use Rattle.setup.specs.Dialling.{symbol, legal_string, padded, dialled, string_of, legal_dialled}
 use Rattle.setup.specs.Setups.{routing_address, in_range, list_fits, route_fits, placing_fits, outer_fits, fault_in, zone_asked, fault, faultless, well_formed}
@@ -44,6 +45,13 @@ string-legal d e =
     let inside : i < d.len = omega arith in
     rw (get_or-take d.len d.symbols i 0 inside)
     (every-at d.len (λ i. symbol (get_or d.symbols i 0)) (and_right (leb d.len 32) (every d.len (λ i. symbol (get_or d.symbols i 0))) e) i inside)))
+
+-- a string in a setup is legal where it is not too long and its symbols are
+pub dialled-is : (d : Dialled) → length d.symbols ≡ 32 → d.len ≤ 32 → legal_dialled d ≡ legal_string (string_of d)
+unfolding legal_dialled legal_string string_of
+dialled-is d long low =
+    let size : length (take d.len d.symbols) ≡ d.len = simp length-take (omega arith) in
+    rw size (ap (λ (b : Bool). leb d.len 32 && b) (every-ext d.len _ _ (λ i h. rw (get_or-take d.len d.symbols i 0 h))))
 
 -- ---- faults
 
@@ -95,15 +103,22 @@ pub asked-enough : (zone : List ℕ) (reversible : ℕ) (s : Setup) → fault_in
 unfolding fault_in
 asked-enough zone reversible s = rw (asked-fits s.route zone s.list)
 
+-- what `is_none` says of a fault
+pub none-said : (f : Option Fault) (b : Bool) → is_some f ≡ not b → b ≡ faultless f
+none-said None true e = refl
+none-said None false e = absurd (false≢true e)
+none-said (Some f) true e = absurd (false≢true (sym e))
+none-said (Some f) false e = refl
+
 -- ---- the number of a fault: 0 exactly for a well-formed setup, else 5
 
-number-faultless : (f : Fault) → number_of_fault f ≡ cond (faultless f) 0 5
-number-faultless WellFormed = refl
-number-faultless BadAddressOrString = refl
-number-faultless NoRoutingAddress = refl
-number-faultless NoEndPart = refl
-number-faultless WrongPlacing = refl
-number-faultless WrongOuter = refl
+number-faultless : (f : Option Fault) → number_of_fault f ≡ cond (faultless f) 0 5
+number-faultless None = refl
+number-faultless (Some BadAddressOrString) = refl
+number-faultless (Some NoRoutingAddress) = refl
+number-faultless (Some NoEndPart) = refl
+number-faultless (Some WrongPlacing) = refl
+number-faultless (Some WrongOuter) = refl
 
 pub fault-number : (p : Plan) (s : Setup) → number_of_fault (fault p s) ≡ cond (well_formed p s) 0 5
 unfolding well_formed

@@ -1,22 +1,18 @@
 -- Setups (manual 5.2), and which fault one has. What stands past the length of a string or of a list does not count. Assumes nothing.
-use Rattle.std.specs.Prelude.{ℕ, ◌+◌, ◌-◌, Bool, true, false, not, ◌&&◌, cond, List, [], eqb, leb, length, get_or, take}
+use Rattle.std.specs.Prelude.{ℕ, ◌+◌, ◌-◌, Bool, true, false, not, ◌&&◌, cond, List, [], eqb, leb, length, get_or, take, Option, Some, None}
 use Rattle.typeset.specs.Sets.{has, every}
 use Rattle.plan.specs.declared.Region.{Region}
 use Rattle.plan.specs.declared.Region.TheVariants.{Source, Target}
 use Rattle.plan.specs.declared.Plan.{Plan}
 use Rattle.plan.specs.Parts.{legal}
 use Rattle.zone.specs.declared.Zone.{Zone}
-use Rattle.zone.specs.Order.{held}
+use Rattle.zone.specs.Order.{held, list_of}
 use Rattle.zone.specs.Answer.{zone_at}
 use Rattle.setup.specs.declared.Route.{Route}
 use Rattle.setup.specs.declared.Route.TheVariants.{Whole, Suffix, Listed}
-use Rattle.setup.specs.declared.Placing.{Placing}
-use Rattle.setup.specs.declared.Placing.TheVariants.{NoPlacing, PlacedBy}
-use Rattle.setup.specs.declared.Outer.{Outer}
-use Rattle.setup.specs.declared.Outer.TheVariants.{NoOuter, OuterAt}
 use Rattle.setup.specs.declared.Setup.{Setup}
 use Rattle.setup.specs.declared.Fault.{Fault}
-use Rattle.setup.specs.declared.Fault.TheVariants.{WellFormed, BadAddressOrString, NoRoutingAddress, NoEndPart, WrongPlacing, WrongOuter}
+use Rattle.setup.specs.declared.Fault.TheVariants.{BadAddressOrString, NoRoutingAddress, NoEndPart, WrongPlacing, WrongOuter}
 use Rattle.setup.specs.Dialling.{dialled, legal_dialled}
 
 -- of a source and a target, the one that a region routes by: the source in the source region, the target in the target region; and the other one
@@ -32,19 +28,15 @@ other Target source target = source
 unfoldable pub routing_address : Setup → ℕ
 routing_address s = routing s.region s.source s.target
 
--- the list that a setup or a zone holds: the first len places
-unfoldable pub list_of : Zone → List ℕ
-list_of z = take z.len z.types
-
 -- a list is an end part of a zone: its last types, in their order. The empty list is one, and so is the whole zone
 unfoldable pub end_part : List ℕ → List ℕ → Bool
 end_part l z = leb (length l) (length z) && every (length l) (λ i. eqb (get_or l i 0) (get_or z (length z - length l + i) 0))
 
 -- ---- what a well-formed setup keeps, in the order in which faults are named
 
-abbrev pub outer_legal : Outer → Bool
-outer_legal NoOuter = true
-outer_legal (OuterAt a) = legal a
+abbrev pub outer_legal : Option ℕ → Bool
+outer_legal None = true
+outer_legal (Some a) = legal a
 
 -- its addresses are in range and its string is legal
 unfoldable pub in_range : Setup → Bool
@@ -60,40 +52,40 @@ route_fits Suffix fits = true
 route_fits Listed fits = fits
 
 -- suffix has a reversible placing type, and other routes have none
-abbrev pub unplaced : Placing → Bool
-unplaced NoPlacing = true
-unplaced (PlacedBy t) = false
+abbrev pub unplaced : Option ℕ → Bool
+unplaced None = true
+unplaced (Some t) = false
 
-abbrev pub placed_by : ℕ → Placing → Bool
-placed_by reversible NoPlacing = false
-placed_by reversible (PlacedBy t) = has t reversible
+abbrev pub placed_by : ℕ → Option ℕ → Bool
+placed_by reversible None = false
+placed_by reversible (Some t) = has t reversible
 
-abbrev pub placing_fits : ℕ → Route → Placing → Bool
+abbrev pub placing_fits : ℕ → Route → Option ℕ → Bool
 placing_fits reversible Whole placing = unplaced placing
 placing_fits reversible Suffix placing = placed_by reversible placing
 placing_fits reversible Listed placing = unplaced placing
 
 -- outer is absent in the target region and, where present, not 0
-abbrev pub outer_absent : Outer → Bool
-outer_absent NoOuter = true
-outer_absent (OuterAt a) = false
+abbrev pub outer_absent : Option ℕ → Bool
+outer_absent None = true
+outer_absent (Some a) = false
 
-abbrev pub outer_given : Outer → Bool
-outer_given NoOuter = true
-outer_given (OuterAt a) = not (eqb a 0)
+abbrev pub outer_given : Option ℕ → Bool
+outer_given None = true
+outer_given (Some a) = not (eqb a 0)
 
-abbrev pub outer_fits : Region → Outer → Bool
+abbrev pub outer_fits : Region → Option ℕ → Bool
 outer_fits Source outer = outer_given outer
 outer_fits Target outer = outer_absent outer
 
--- the first of these that a setup does not keep, where `zone` is the zone of its routing address
-unfoldable pub fault_in : List ℕ → ℕ → Setup → Fault
+-- the first of these that a setup does not keep, if any, where `zone` is the zone of its routing address
+unfoldable pub fault_in : List ℕ → ℕ → Setup → Option Fault
 fault_in zone reversible s =
-    cond (not (in_range s)) BadAddressOrString
-    (cond (eqb (routing_address s) 0) NoRoutingAddress
-    (cond (not (route_fits s.route (list_fits zone s.list))) NoEndPart
-    (cond (not (placing_fits reversible s.route s.placing)) WrongPlacing
-    (cond (not (outer_fits s.region s.outer)) WrongOuter WellFormed))))
+    cond (not (in_range s)) (Some BadAddressOrString)
+    (cond (eqb (routing_address s) 0) (Some NoRoutingAddress)
+    (cond (not (route_fits s.route (list_fits zone s.list))) (Some NoEndPart)
+    (cond (not (placing_fits reversible s.route s.placing)) (Some WrongPlacing)
+    (cond (not (outer_fits s.region s.outer)) (Some WrongOuter) None))))
 
 -- the zone that a route is held against: only a list needs one
 abbrev pub zone_asked : Route → List ℕ → List ℕ
@@ -101,21 +93,17 @@ zone_asked Whole zone = []
 zone_asked Suffix zone = []
 zone_asked Listed zone = zone
 
-unfoldable pub fault : Plan → Setup → Fault
+unfoldable pub fault : Plan → Setup → Option Fault
 fault p s = fault_in (zone_at p s.region (routing_address s)) p.types.reversible s
 
-abbrev pub faultless : Fault → Bool
-faultless WellFormed = true
-faultless BadAddressOrString = false
-faultless NoRoutingAddress = false
-faultless NoEndPart = false
-faultless WrongPlacing = false
-faultless WrongOuter = false
+abbrev pub faultless : Option Fault → Bool
+faultless None = true
+faultless (Some f) = false
 
 unfoldable pub well_formed : Plan → Setup → Bool
 well_formed p s = faultless (fault p s)
 
--- ---- the blank setup, which stands beside a refusal: nothing in it
+-- ---- the blank setup: nothing in it
 
 unfoldable pub blank : Setup
 blank = record {
@@ -125,6 +113,6 @@ blank = record {
   target = 0;
   route = Whole;
   list = held [];
-  placing = NoPlacing;
-  outer = NoOuter;
+  placing = None;
+  outer = None;
 }

@@ -1,43 +1,30 @@
 // Setups: what a box sends to place a call. Which fault one has is tested in `faults`.
 #![tactic(auto)]
 
-ghost use Rattle.std.specs.Prelude.{◌≡◌, min, [], length, take};
-ghost use Rattle.zone.specs.Order.{held};
+ghost use Rattle.std.specs.Prelude.{◌≡◌, length, take};
+ghost use Rattle.zone.specs.Order.{held, list_of};
 ghost use Rattle.setup.specs.Dialling.{symbol, legal_string, padded, dialled, string_of, legal_dialled};
-ghost use Rattle.setup.specs.Setups.{routing, other, routing_address, list_of, blank};
+ghost use Rattle.setup.specs.Setups.{routing, other, routing_address, blank};
 
 use plan::Region;
 use zone::Zone;
 
-// A dialled string: the first len places, as ASCII codes. The places past len are 0 in whatever is made here.
+// A dialled string: the first len places, as ASCII codes. The places past len are 0 in whatever is made here. The length stands beside 32 places, since the memory is fixed and a setup may say a longer one, which is refused with 5.
 #[derive(Clone, Copy)]
 pub struct Dialled {
     pub symbols: [u8; 32],
     pub len: u8,
 }
 
-// Which part of the routing address's zone is to be visited. A list stands beside it, in the setup.
-#[derive(Clone, Copy)]
+// Which part of the routing address's zone is to be visited. The list stands beside it and not in `Listed`: a setup's bytes have a list with any route, and come back as they were (`back-and-there`, setupbytes/RoundTrip).
+#[derive(Clone, Copy, PartialEq, Eq, Debug)]
 pub enum Route {
     Whole,
     Suffix,
     Listed,
 }
 
-// The type of the box that placed the call, where it is needed.
-#[derive(Clone, Copy)]
-pub enum Placing {
-    NoPlacing,
-    PlacedBy(u8),
-}
-
-// The address of the box that placed the call, where it is needed.
-#[derive(Clone, Copy)]
-pub enum Outer {
-    NoOuter,
-    OuterAt(u32),
-}
-
+// `placing` is the type of the box that placed the call, `outer` its address; each where it is needed. Source and target are numbers: 0 is no address (`given`, plan/Parts), in a plan, in the bytes and for C.
 #[derive(Clone, Copy)]
 pub struct Setup {
     pub region: Region,
@@ -46,14 +33,13 @@ pub struct Setup {
     pub target: u32,
     pub route: Route,
     pub list: Zone,
-    pub placing: Placing,
-    pub outer: Outer,
+    pub placing: Option<u8>,
+    pub outer: Option<u32>,
 }
 
-// Which fault a setup has, the first in this order.
-#[derive(Clone, Copy)]
+// What can be wrong with a setup, in the order in which it is looked for.
+#[derive(Clone, Copy, PartialEq, Eq, Debug)]
 pub enum Fault {
-    WellFormed,
     BadAddressOrString,
     NoRoutingAddress,
     NoEndPart,
@@ -63,71 +49,44 @@ pub enum Fault {
 
 // ---- dialled strings
 
+impl Dialled {
+    // Its symbols: the first len places, of which there are 32.
+    pub fn as_slice(&self) -> &[u8]
+        ensures { result.now ≡ string_of self.now }
+    {
+        &self.symbols[..usize::from(self.len).min(32)]
+    }
+}
+
 // Whether a byte is a digit, * or #.
+#[tactic(auto, unfolding(crate::specs::Dialling::symbol))]
 pub fn symbol(c: u8) -> bool
     ensures { result ≡ symbol c }
 {
-    if c == 42 {
-        return true;
-    }
-    if c == 35 {
-        return true;
-    }
-    if c < 48 {
-        return false;
-    }
-    c <= 57
+    matches!(c, b'0'..=b'9' | b'*' | b'#')
 }
 
 // Whether any bytes are a legal string.
 pub fn legal_string(s: &[u8]) -> bool
     ensures { result ≡ legal_string s.now }
 {
-    if 32 < s.len() {
-        return false;
-    }
-    let mut i: usize = 0;
-    while i < s.len() {
-        if !symbol(s[i]) {
-            return false;
-        }
-        i += 1;
-    }
-    true
+    s.len() <= 32 && s.iter().all(|c| symbol(*c))
 }
 
 // Whether a string in a setup is legal.
 pub fn legal_dialled(d: Dialled) -> bool
     ensures { result ≡ legal_dialled d }
 {
-    let symbols = d.symbols;
-    let len = d.len as usize;
-    if 32 < len {
-        return false;
-    }
-    for i in 0usize..len {
-        if !symbol(symbols[i]) {
-            return false;
-        }
-    }
-    true
-}
-
-fn at_most_32(n: usize) -> usize
-    ensures { result ≡ min n 32 }
-{
-    if n < 32 { n } else { 32 }
+    d.len <= 32 && legal_string(d.as_slice())
 }
 
 // The first 32 bytes, and 0 in the places that are left.
 fn filled(s: &[u8]) -> [u8; 32]
     ensures { result ≡ padded (take 32 s.now) }
 {
-    let end = at_most_32(s.len());
+    let end = s.len().min(32);
     let mut places = [0u8; 32];
-    for i in 0usize..end {
-        places[i] = s[i];
-    }
+    places[..end].copy_from_slice(&s[..end]);
     places
 }
 
@@ -135,9 +94,10 @@ fn filled(s: &[u8]) -> [u8; 32]
 pub fn dial(s: &[u8]) -> Dialled
     ensures { result ≡ dialled (take 32 s.now) }
 {
+    let symbols = filled(s);
     Dialled {
-        symbols: filled(s),
-        len: at_most_32(s.len()) as u8,
+        symbols,
+        len: s.len().min(32) as u8,
     }
 }
 
@@ -145,18 +105,17 @@ pub fn dial(s: &[u8]) -> Dialled
 pub fn kept_string(d: Dialled) -> Dialled
     ensures { result ≡ dialled (string_of d) }
 {
-    let symbols = d.symbols;
-    let end = at_most_32(d.len as usize);
-    dial(&symbols[..end])
+    dial(d.as_slice())
 }
 
-// A list as a setup holds it, of any bytes: the first 32.
+// A list as a setup holds it, of any bytes: the first 32. (As `dial`: strings and lists are two types with public fields, and what they share is `filled`.)
 pub fn listed(s: &[u8]) -> Zone
     ensures { result ≡ held (take 32 s.now) }
 {
+    let types = filled(s);
     Zone {
-        types: filled(s),
-        len: at_most_32(s.len()) as u8,
+        types,
+        len: s.len().min(32) as u8,
     }
 }
 
@@ -164,49 +123,31 @@ pub fn listed(s: &[u8]) -> Zone
 pub fn kept_list(z: Zone) -> Zone
     ensures { result ≡ held (list_of z) }
 {
-    let types = z.types;
-    let end = at_most_32(z.len as usize);
-    listed(&types[..end])
+    listed(z.as_slice())
 }
 
 // How many types a list holds: its length, or 32 where that is more.
 pub fn list_length(z: Zone) -> usize
     ensures { result ≡ length (list_of z) }
 {
-    at_most_32(z.len as usize)
+    z.as_slice().len()
 }
 
-fn empty_list() -> Zone
-    ensures { result ≡ held [] }
-{
-    Zone {
-        types: [0u8; 32],
-        len: 0,
-    }
-}
-
-fn empty_string() -> Dialled
-    ensures { result ≡ dialled [] }
-{
-    Dialled {
-        symbols: [0u8; 32],
-        len: 0,
-    }
-}
-
-// The setup that stands beside a refusal.
+// The setup in which there is nothing.
 pub fn blank_setup() -> Setup
     ensures { result ≡ blank }
 {
+    let nothing = dial(&[]);
+    let nowhere = Zone::empty();
     Setup {
         region: Region::Source,
         source: 0,
-        dialled: empty_string(),
+        dialled: nothing,
         target: 0,
         route: Route::Whole,
-        list: empty_list(),
-        placing: Placing::NoPlacing,
-        outer: Outer::NoOuter,
+        list: nowhere,
+        placing: None,
+        outer: None,
     }
 }
 
@@ -216,26 +157,19 @@ pub fn blank_setup() -> Setup
 pub fn routing(region: Region, source: u32, target: u32) -> u32
     ensures { result ≡ routing region source target }
 {
-    match region {
-        Region::Source => source,
-        Region::Target => target,
-    }
+    region.of(source, target)
 }
 
 // And the other one.
 pub fn other(region: Region, source: u32, target: u32) -> u32
     ensures { result ≡ other region source target }
 {
-    match region {
-        Region::Source => target,
-        Region::Target => source,
-    }
+    region.of(target, source)
 }
 
 // The address whose zone a setup is routed in.
 pub fn routing_address(s: Setup) -> u32
     ensures { result ≡ routing_address s }
 {
-    let region = s.region;
-    routing(region, s.source, s.target)
+    routing(s.region, s.source, s.target)
 }

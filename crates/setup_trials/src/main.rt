@@ -3,137 +3,164 @@
 #![tactic(auto)]
 
 mod asked;
-mod names;
 mod told;
 
-use console::{Tally, Words};
-use embedded::Dials;
-use names::Said;
+use console::{Word, before, behind, says};
+use std::alloc::{AllocError, Global};
+use std::fmt::Write;
 use std::io;
+
+// The names that the lines of the table use; the last ones only make a line easier to read.
+const NAMES: [&str; 42] = [
+    "zone",
+    "embeds",
+    "new",
+    "continued",
+    "reversed",
+    "route",
+    "of",
+    "given",
+    "broken",
+    "full",
+    "rooms",
+    "later",
+    "source",
+    "target",
+    "region",
+    "from",
+    "to",
+    "whole",
+    "suffix",
+    "empty",
+    "list",
+    "placing",
+    "outer",
+    "symbols",
+    "types",
+    "junk",
+    "feature",
+    "line",
+    "trunk",
+    "resource",
+    "error",
+    "at",
+    "none",
+    "zones",
+    "and",
+    "counted",
+    "unknown",
+    "by",
+    "in",
+    "plan",
+    "stored",
+    "box",
+];
 
 // ---- zones and embedded addresses
 
-// `nothing` has the names and no words: the answer begins with it.
-fn zone_told(s: Said, nothing: Said) -> Said {
-    let answer = zone::zone_for(
-        asked::plan_of(s),
-        asked::region_of(s),
-        asked::address_after(s, names::OF),
-    );
-    told::with_zone_answer(nothing, answer)
+fn zone_told(alloc: Global, asked: &[Word]) -> Result<String, AllocError> {
+    let mut told = String::new(alloc);
+    let plan = asked::plan_of(asked);
+    let address = asked::address_after(asked, "of");
+    match zone::zone_for(plan, asked::region_of(asked), address) {
+        Ok(zone) => told::push_zone(&mut told, &zone)?,
+        Err(r) => write!(told, "{r}")?,
+    }
+    Ok(told)
 }
 
-fn embedded_told(s: Said, nothing: Said) -> Said {
-    let bytes = asked::string_bytes(s);
-    let n = asked::string_length(s);
-    let dials = embedded::embedded_in(&bytes[..n]);
-    match dials {
-        Dials::Nobody => names::with_name(nothing, names::NONE),
-        Dials::Address(a) => names::with_number(nothing, a as u64),
+fn embedded_told(alloc: Global, asked: &[Word]) -> Result<String, AllocError> {
+    let string = asked::string_of(alloc, asked)?;
+    match embedded::embedded_in(&string) {
+        None => format!(in alloc; "none"),
+        Some(a) => format!(in alloc; "{a}"),
     }
 }
 
 // ---- making
 
-fn made_by(way: usize, s: Said, given: Said, string: &[u8]) -> making::Answer {
-    let plan = asked::plan_of(s);
-    let maker = asked::maker_of(s);
-    let stored = asked::setup_of(s);
-    let source = asked::address_after(given, names::FROM);
-    let target = asked::address_after(given, names::TO);
-    match way {
-        names::NEW => making::new_setup(plan, maker, string, target),
-        names::CONTINUED => making::continued_setup(plan, maker, stored, source, string, target),
-        _ => making::reversed_setup(plan, maker, stored, source, string, target),
-    }
+// The three ways to make a setup. An enum: as closures all three would take six arguments, of which one uses four.
+#[derive(Clone, Copy)]
+enum Way {
+    New,
+    Continued,
+    Reversed,
 }
 
-fn making_told(way: usize, s: Said, nothing: Said) -> Said {
-    let given = asked::given(s);
-    let bytes = asked::string_bytes(given);
-    let n = asked::string_length(given);
-    told::with_made(
-        nothing,
-        made_by(way, asked::before_given(s), given, &bytes[..n]),
-    )
+fn making_told(alloc: Global, way: Way, asked: &[Word]) -> Result<String, AllocError> {
+    let given = behind(asked, Word::Name("given")).unwrap_or(&[]);
+    let string = asked::string_of(alloc, given)?;
+    let source = asked::address_after(given, "from");
+    let target = asked::address_after(given, "to");
+    let asked = before(asked, Word::Name("given"));
+    let plan = asked::plan_of(asked);
+    let maker = asked::maker_of(asked);
+    let stored = asked::setup_of(alloc, asked)?;
+    let answer = match way {
+        Way::New => making::new_setup(plan, maker, &string, target),
+        Way::Continued => making::continued_setup(plan, maker, stored, source, &string, target),
+        Way::Reversed => making::reversed_setup(plan, maker, stored, source, &string, target),
+    };
+    let mut told = String::new(alloc);
+    match answer {
+        Ok(setup) => told::push_setup(&mut told, &setup)?,
+        Err(r) => write!(told, "{r}")?,
+    }
+    Ok(told)
 }
 
 // ---- routing
 
-fn routed_by(s: Said, source: &mut [u8], target: &mut [u8]) -> routing::Answer {
-    let plan = asked::plan_of(s);
-    let setup = asked::setup_of(s);
-    if names::says(s, names::LATER) {
-        routing::route_unless(plan, setup, asked::later_of(s), source, target)
-    } else {
-        routing::route(plan, setup, source, target)
-    }
-}
-
 // The first places of each list are its room; the others are looked at too.
-fn routing_told(s: Said, nothing: Said) -> Said {
+fn routing_told(alloc: Global, asked: &[Word]) -> Result<String, AllocError> {
+    let plan = asked::plan_of(asked);
+    let setup = asked::setup_of(alloc, asked)?;
     let mut source = asked::lent();
     let mut target = asked::lent();
-    let n = asked::room(s, names::ROOMS);
-    let m = asked::room(s, names::AND);
-    let answer = routed_by(s, &mut source[..n], &mut target[..m]);
-    told::with_answer(nothing, answer, source, target)
+    let n = asked::room(asked, "rooms");
+    let m = asked::room(asked, "and");
+    let answer = if says(asked, "later") {
+        let later = asked::later_of(asked);
+        routing::route_unless(plan, setup, later, &mut source[..n], &mut target[..m])
+    } else {
+        routing::route(plan, setup, &mut source[..n], &mut target[..m])
+    };
+    let mut told = String::new(alloc);
+    match answer {
+        Ok(routed) => {
+            told::push_callee(&mut told, routed.callee)?;
+            told::push_setup(&mut told, &routed.setup)?;
+            if routed.left != routed.setup.list.len {
+                write!(told, " counted {}", routed.left)?;
+            }
+        }
+        Err(r) => write!(told, "{r}")?,
+    }
+    let lists = [("zones", &source), ("and", &target)];
+    told::push_lent(&mut told, lists, answer.is_ok())?;
+    Ok(told)
 }
 
-// ---- all lines
+// ---- a case
 
 // A line that no operation is asked by, or with a name that the table does not have, is answered by `unknown`.
-fn answer(s: Said) -> Said {
-    let words = s.words;
-    let names = s.names;
-    let nothing = names::with_words(s, console::no_words());
-    let way = console::place_of(names, console::word(words, 0));
-    let understood = if console::known(words, names) {
-        way
-    } else {
-        names::UNKNOWN
+fn answer(alloc: Global, asked: &[Word]) -> Result<String, AllocError> {
+    let first = match asked.first() {
+        Some(Word::Name(name)) if console::known(asked, &NAMES) => name.as_bytes(),
+        _ => b"unknown",
     };
-    match understood {
-        names::ZONE => zone_told(s, nothing),
-        names::EMBEDS => embedded_told(s, nothing),
-        names::NEW | names::CONTINUED | names::REVERSED => making_told(way, s, nothing),
-        names::ROUTE => routing_told(s, nothing),
-        _ => names::with_name(nothing, names::UNKNOWN),
+    match first {
+        b"zone" => zone_told(alloc, asked),
+        b"embeds" => embedded_told(alloc, asked),
+        b"new" => making_told(alloc, Way::New, asked),
+        b"continued" => making_told(alloc, Way::Continued, asked),
+        b"reversed" => making_told(alloc, Way::Reversed, asked),
+        b"route" => routing_told(alloc, asked),
+        _ => format!(in alloc; "unknown"),
     }
-}
-
-fn with_line(rt: &impl Print, t: Tally, names: Words, text: &[u8]) -> io::Result<Tally> {
-    let t = console::next_line(t);
-    if console::is_remark(text) {
-        return Ok(t);
-    }
-    let words = console::words_of(text);
-    let asked = console::part(words, 0, console::place_of(words, console::EQUALS));
-    let said = answer(Said {
-        names,
-        words: asked,
-    });
-    let got = said.words;
-    console::judged(rt, t, text, words, got)
-}
-
-// The bound is more than any table has: a loop must end.
-fn all_lines(rt: &(impl Input + Print), names: Words) -> io::Result<Tally> {
-    let mut input = rt.reader();
-    let mut t = console::no_tally();
-    let mut line = [0u8; 1000];
-    for _ in 0u32..100_000u32 {
-        let read = console::read_line(&mut input, &mut line)?;
-        if read.ended {
-            return Ok(t);
-        }
-        let n = read.len;
-        t = with_line(rt, t, names, &line[..n])?;
-    }
-    Ok(t)
 }
 
 fn main(rt: HostRuntime) -> io::Result<()> {
-    let t = all_lines(&rt, names::all_names())?;
-    console::finish(&rt, t)
+    let alloc = rt.alloc();
+    console::trials(&rt, &mut [0; 1000], |asked| answer(alloc, asked))
 }

@@ -1,4 +1,5 @@
 -- Both round trips of the codec: any setup that a program holds comes back from its bytes, and bytes that are a setup's are its bytes. Assumes nothing.
+use Rattle.std.specs.Prelude.{Option, Some, None}
 use mathlib.Core.Path.{◌≡◌, refl, sym, ap, ap₂, ◌∙◌}
 use mathlib.Core.Bool.{true, false, ◌&&◌}
 use mathlib.Core.List.{List, [], ◌∷◌, ◌++◌, append_assoc}
@@ -13,23 +14,19 @@ use Rattle.plan.specs.declared.Region.{Region}
 use Rattle.plan.specs.declared.Region.TheVariants.{Source, Target}
 use Rattle.setup.specs.declared.Route.{Route}
 use Rattle.setup.specs.declared.Route.TheVariants.{Whole, Suffix, Listed}
-use Rattle.setup.specs.declared.Placing.{Placing}
-use Rattle.setup.specs.declared.Placing.TheVariants.{NoPlacing, PlacedBy}
-use Rattle.setup.specs.declared.Outer.{Outer}
-use Rattle.setup.specs.declared.Outer.TheVariants.{NoOuter, OuterAt}
 use Rattle.setup.specs.declared.Setup.{Setup}
 use Rattle.setup.specs.Setups.{blank}
 use Rattle.typeset.proofs.Bools.{and_left, and_right}
 use Rattle.planbytes.specs.Numbers.{high, number, number_after}
 use Rattle.planbytes.specs.Format.{field}
-use Rattle.setupbytes.specs.Codec.{region_number, route_number, placed, placing_type, given, outer_address, head_of, head, setup_bytes, region_said, route_said, placing_said, outer_said, fields_in, same, setup_in}
+use Rattle.setupbytes.specs.Codec.{region_number, route_number, given, or_zero, head_of, head, setup_bytes, region_said, route_said, said, fields_in, same, setup_in}
 use Rattle.setupbytes.proofs.Stores.{with-header}
 
 -- a setup that a program holds: its numbers fit in and its arrays have 32 places
 pub record Typed (s : Setup) : Type 0 where
   pub source_fits : s.source < 2 ^ 32
   pub target_fits : s.target < 2 ^ 32
-  pub outer-fits : outer_address s.outer < 2 ^ 32
+  pub outer-fits : or_zero s.outer < 2 ^ 32
   pub symbols-places : length s.dialled.symbols ≡ 32
   pub types-places : length s.list.types ≡ 32
 
@@ -44,13 +41,9 @@ route-back Whole = refl
 route-back Suffix = refl
 route-back Listed = refl
 
-placing-back : (x : Placing) → placing_said (placed x) (placing_type x) ≡ x
-placing-back NoPlacing = refl
-placing-back (PlacedBy t) = refl
-
-outer-back : (x : Outer) → outer_said (given x) (outer_address x) ≡ x
-outer-back NoOuter = refl
-outer-back (OuterAt a) = refl
+option-back : (x : Option ℕ) → said (given x) (or_zero x) ≡ x
+option-back None = refl
+option-back (Some n) = refl
 
 number-back : (n : ℕ) → n < 2 ^ 32 → number (high 4 n) ≡ n
 unfolding number number_after high
@@ -128,20 +121,20 @@ route-at : (s : Setup) → route_said (get_or (setup_bytes s) 21 0) ≡ s.route
 unfolding setup_bytes head head_of field high
 route-at s = route-back s.route
 
-placing-at : (s : Setup) → placing_said (get_or (setup_bytes s) 25 0) (get_or (setup_bytes s) 26 0) ≡ s.placing
+placing-at : (s : Setup) → said (get_or (setup_bytes s) 25 0) (get_or (setup_bytes s) 26 0) ≡ s.placing
 unfolding setup_bytes head head_of field high
-placing-at s = placing-back s.placing
+placing-at s = option-back s.placing
 
-outer-number : (s : Setup) → Typed s → number (take 4 (drop 31 (setup_bytes s))) ≡ outer_address s.outer
+outer-number : (s : Setup) → Typed s → number (take 4 (drop 31 (setup_bytes s))) ≡ or_zero s.outer
 unfolding setup_bytes head head_of field high
-outer-number s t = number-back (outer_address s.outer) t.outer-fits
+outer-number s t = number-back (or_zero s.outer) t.outer-fits
 
 outer-given : (s : Setup) → get_or (setup_bytes s) 30 0 ≡ given s.outer
 unfolding setup_bytes head head_of field high
 outer-given s = refl
 
-outer-at : (s : Setup) → Typed s → outer_said (get_or (setup_bytes s) 30 0) (number (take 4 (drop 31 (setup_bytes s)))) ≡ s.outer
-outer-at s t = rw (outer-given s, outer-number s t) (outer-back s.outer)
+outer-at : (s : Setup) → Typed s → said (get_or (setup_bytes s) 30 0) (number (take 4 (drop 31 (setup_bytes s)))) ≡ s.outer
+outer-at s t = rw (outer-given s, outer-number s t) (option-back s.outer)
 
 string-length-at : (s : Setup) → get_or (setup_bytes s) 38 0 ≡ s.dialled.len
 unfolding setup_bytes head head_of field high

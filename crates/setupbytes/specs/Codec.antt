@@ -1,15 +1,11 @@
 -- A setup as 110 bytes: tagged fields as in the plan file (a tag of one byte, a length of two, numbers high byte first), each with one length, so that every field has one place.
 -- Assumes nothing.
-use Rattle.std.specs.Prelude.{ℕ, Bool, ◌&&◌, cond, List, [], ◌∷◌, ◌++◌, eqb, length, get_or, take, drop}
+use Rattle.std.specs.Prelude.{ℕ, Bool, ◌&&◌, cond, List, [], ◌∷◌, ◌++◌, eqb, length, get_or, take, drop, Option, Some, None}
 use Rattle.typeset.specs.Sets.{every}
 use Rattle.plan.specs.declared.Region.{Region}
 use Rattle.plan.specs.declared.Region.TheVariants.{Source, Target}
 use Rattle.setup.specs.declared.Route.{Route}
 use Rattle.setup.specs.declared.Route.TheVariants.{Whole, Suffix, Listed}
-use Rattle.setup.specs.declared.Placing.{Placing}
-use Rattle.setup.specs.declared.Placing.TheVariants.{NoPlacing, PlacedBy}
-use Rattle.setup.specs.declared.Outer.{Outer}
-use Rattle.setup.specs.declared.Outer.TheVariants.{NoOuter, OuterAt}
 use Rattle.setup.specs.declared.Setup.{Setup}
 use Rattle.setup.specs.Setups.{blank}
 use Rattle.planbytes.specs.Numbers.{high, number}
@@ -28,23 +24,14 @@ route_number Whole = 1
 route_number Suffix = 2
 route_number Listed = 3
 
--- a placing type: 0 and 0 for none; else 1 and the type
-abbrev pub placed : Placing → ℕ
-placed NoPlacing = 0
-placed (PlacedBy t) = 1
+-- a placing type or an outer address: 0 and 0 for none; else 1 and its number
+abbrev pub given : {A : Type 0} → Option A → ℕ
+given None = 0
+given (Some n) = 1
 
-abbrev pub placing_type : Placing → ℕ
-placing_type NoPlacing = 0
-placing_type (PlacedBy t) = t
-
--- an outer address: 0 and 0 for none; else 1 and the address
-abbrev pub given : Outer → ℕ
-given NoOuter = 0
-given (OuterAt a) = 1
-
-abbrev pub outer_address : Outer → ℕ
-outer_address NoOuter = 0
-outer_address (OuterAt a) = a
+abbrev pub or_zero : Option ℕ → ℕ
+or_zero None = 0
+or_zero (Some n) = n
 
 -- ---- the bytes
 
@@ -55,7 +42,7 @@ head_of region source target route placed type given outer =
 
 unfoldable pub head : Setup → List ℕ
 head s =
-    head_of (region_number s.region) s.source s.target (route_number s.route) (placed s.placing) (placing_type s.placing) (given s.outer) (outer_address s.outer)
+    head_of (region_number s.region) s.source s.target (route_number s.route) (given s.placing) (or_zero s.placing) (given s.outer) (or_zero s.outer)
 
 -- tag 7: how many symbols the string has, and its 32 places; tag 8: how many types the list has, and its 32 places; tag 127, no body
 unfoldable pub setup_bytes : Setup → List ℕ
@@ -70,11 +57,9 @@ region_said n = cond (eqb n 1) Source Target
 abbrev pub route_said : ℕ → Route
 route_said n = cond (eqb n 1) Whole (cond (eqb n 2) Suffix Listed)
 
-abbrev pub placing_said : ℕ → ℕ → Placing
-placing_said n t = cond (eqb n 0) NoPlacing (PlacedBy t)
-
-abbrev pub outer_said : ℕ → ℕ → Outer
-outer_said n a = cond (eqb n 0) NoOuter (OuterAt a)
+-- none where 0 stands before the number
+abbrev pub said : {A : Type 0} → ℕ → A → Option A
+said k n = cond (eqb k 0) None (Some n)
 
 unfoldable pub fields_in : List ℕ → Setup
 fields_in b = record {
@@ -84,8 +69,8 @@ fields_in b = record {
   target = number (take 4 (drop 14 b));
   route = route_said (get_or b 21 0);
   list = record { types = take 32 (drop 75 b); len = get_or b 74 0 };
-  placing = placing_said (get_or b 25 0) (get_or b 26 0);
-  outer = outer_said (get_or b 30 0) (number (take 4 (drop 31 b)));
+  placing = said (get_or b 25 0) (get_or b 26 0);
+  outer = said (get_or b 30 0) (number (take 4 (drop 31 b)));
 }
 
 -- two runs of 110 bytes are the same

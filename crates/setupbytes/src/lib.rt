@@ -5,13 +5,13 @@ ghost use Rattle.std.specs.Prelude.{◌≡◌, true, [], ◌∷◌, ◌++◌, �
 ghost use Rattle.std.proofs.lemmas.List.Edits.{sets};
 ghost use Rattle.planbytes.specs.Numbers.{number};
 ghost use Rattle.planbytes.specs.Format.{field};
-ghost use Rattle.setupbytes.specs.Codec.{region_number, route_number, placed, placing_type, given, outer_address, head_of, head, setup_bytes, region_said, route_said, placing_said, outer_said, fields_in, same, setup_in};
+ghost use Rattle.setupbytes.specs.Codec.{region_number, route_number, given, or_zero, head_of, head, setup_bytes, region_said, route_said, said, fields_in, same, setup_in};
 
 use plan::Region;
-use setup::{Dialled, Outer, Placing, Route, Setup};
+use setup::{Dialled, Route, Setup};
 use zone::Zone;
 
-// ---- the numbers of the cases
+// ---- the numbers of the cases: the bytes' own, which the enums know nothing of
 
 fn region_number(region: Region) -> u8
     ensures { result ≡ region_number region }
@@ -32,47 +32,11 @@ fn route_number(route: Route) -> u8
     }
 }
 
-fn placed(placing: Placing) -> u8
-    ensures { result ≡ placed placing }
+// 1 where there is a number, 0 where there is none.
+fn given<T: Copy>(number: Option<T>) -> u8
+    ensures { result ≡ given number }
 {
-    match placing {
-        Placing::NoPlacing => 0,
-        Placing::PlacedBy(_) => 1,
-    }
-}
-
-fn placing_type(placing: Placing) -> u8
-    ensures { result ≡ placing_type placing }
-{
-    match placing {
-        Placing::NoPlacing => 0,
-        Placing::PlacedBy(t) => t,
-    }
-}
-
-fn given(outer: Outer) -> u8
-    ensures { result ≡ given outer }
-{
-    match outer {
-        Outer::NoOuter => 0,
-        Outer::OuterAt(_) => 1,
-    }
-}
-
-fn outer_address(outer: Outer) -> u32
-    ensures { result ≡ outer_address outer }
-{
-    match outer {
-        Outer::NoOuter => 0,
-        Outer::OuterAt(a) => a,
-    }
-}
-
-// The lowest byte of a number.
-fn low(n: u32) -> u8
-    ensures { result ≡ n % 256 }
-{
-    (n % 256) as u8
+    u8::from(number.is_some())
 }
 
 // ---- a setup's bytes
@@ -82,11 +46,7 @@ fn put(room: &mut [u8; 110], at: usize, part: &[u8])
     requires { at + length part.now ≤ 110 }
     ensures { room.new ≡ sets room.old at part.now }
 {
-    let mut i: usize = 0;
-    while i < part.len() {
-        room[at + i] = part[i];
-        i += 1;
-    }
+    room[at..at + part.len()].copy_from_slice(part);
 }
 
 // The field of tag 7 or 8: how many of its 32 places are in use, and the places.
@@ -111,18 +71,9 @@ fn head_of(
 ) -> [u8; 35]
     ensures { result ≡ head_of region source target route placed kind given outer }
 {
-    let s3 = low(source / 256 / 256 / 256);
-    let s2 = low(source / 256 / 256);
-    let s1 = low(source / 256);
-    let s0 = low(source);
-    let t3 = low(target / 256 / 256 / 256);
-    let t2 = low(target / 256 / 256);
-    let t1 = low(target / 256);
-    let t0 = low(target);
-    let o3 = low(outer / 256 / 256 / 256);
-    let o2 = low(outer / 256 / 256);
-    let o1 = low(outer / 256);
-    let o0 = low(outer);
+    let [s3, s2, s1, s0] = source.to_be_bytes();
+    let [t3, t2, t1, t0] = target.to_be_bytes();
+    let [o3, o2, o1, o0] = outer.to_be_bytes();
     [
         1u8, 0, 1, region, 2, 0, 4, s3, s2, s1, s0, 3, 0, 4, t3, t2, t1, t0, 4, 0, 1, route, 5, 0,
         2, placed, kind, 6, 0, 5, given, o3, o2, o1, o0,
@@ -132,19 +83,15 @@ fn head_of(
 fn head(s: Setup) -> [u8; 35]
     ensures { result ≡ head s }
 {
-    let region = s.region;
-    let route = s.route;
-    let placing = s.placing;
-    let outer = s.outer;
     head_of(
-        region_number(region),
+        region_number(s.region),
         s.source,
         s.target,
-        route_number(route),
-        placed(placing),
-        placing_type(placing),
-        given(outer),
-        outer_address(outer),
+        route_number(s.route),
+        given(s.placing),
+        s.placing.unwrap_or(0),
+        given(s.outer),
+        s.outer.unwrap_or(0),
     )
 }
 
@@ -167,19 +114,12 @@ pub fn setup_bytes(s: Setup) -> [u8; 110]
 
 // ---- the setup of 110 bytes
 
-fn wide(b: u8) -> u32
-    ensures { (result ≡ b) × (result < 256) }
-{
-    b as u32
-}
-
-// The number of four bytes at a place.
+// The number of four bytes at a place. (As in planread, which this crate does not rest on.)
 fn four(bytes: &[u8], at: usize) -> u32
     requires { at + 4 ≤ length bytes.now }
     ensures { result ≡ number (take 4 (drop at bytes.now)) }
 {
-    ((wide(bytes[at]) * 256 + wide(bytes[at + 1])) * 256 + wide(bytes[at + 2])) * 256
-        + wide(bytes[at + 3])
+    u32::from_be_bytes([bytes[at], bytes[at + 1], bytes[at + 2], bytes[at + 3]])
 }
 
 // The 32 bytes from a place on.
@@ -188,9 +128,7 @@ fn places(bytes: &[u8], at: usize) -> [u8; 32]
     ensures { result ≡ take 32 (drop at bytes.now) }
 {
     let mut all = [0u8; 32];
-    for i in 0usize..32usize {
-        all[i] = bytes[at + i];
-    }
+    all.copy_from_slice(&bytes[at..at + 32]);
     all
 }
 
@@ -207,30 +145,18 @@ fn region_said(n: u8) -> Region
 fn route_said(n: u8) -> Route
     ensures { result ≡ route_said n }
 {
-    if n == 1 {
-        return Route::Whole;
-    }
-    if n == 2 { Route::Suffix } else { Route::Listed }
-}
-
-fn placing_said(n: u8, t: u8) -> Placing
-    ensures { result ≡ placing_said n t }
-{
-    if n == 0 {
-        Placing::NoPlacing
-    } else {
-        Placing::PlacedBy(t)
+    match n {
+        1 => Route::Whole,
+        2 => Route::Suffix,
+        _ => Route::Listed,
     }
 }
 
-fn outer_said(n: u8, a: u32) -> Outer
-    ensures { result ≡ outer_said n a }
+// None where 0 stands before the number.
+fn said<T: Copy>(given: u8, number: T) -> Option<T>
+    ensures { result ≡ said given number }
 {
-    if n == 0 {
-        Outer::NoOuter
-    } else {
-        Outer::OuterAt(a)
-    }
+    (given != 0).then_some(number)
 }
 
 // What stands at the place of each field.
@@ -251,12 +177,12 @@ fn fields_in(b: &[u8]) -> Setup
             types: places(b, 75),
             len: b[74],
         },
-        placing: placing_said(b[25], b[26]),
-        outer: outer_said(b[30], four(b, 31)),
+        placing: said(b[25], b[26]),
+        outer: said(b[30], four(b, 31)),
     }
 }
 
-// It goes on past a difference: a loop with one way out is compiled to few steps of many bytes each.
+// Not `==`, which leaves at the first. It goes on past a difference: a loop with one way out is compiled to few steps of many bytes each.
 fn same(a: &[u8], b: &[u8]) -> bool
     requires { (110 ≤ length a.now) × (110 ≤ length b.now) }
     ensures { result ≡ same a.now b.now }
@@ -278,8 +204,7 @@ pub fn setup_in(b: &[u8]) -> Setup
         return setup::blank_setup();
     }
     let s = fields_in(b);
-    let again = setup_bytes(s);
-    if !same(&again, b) {
+    if !same(&setup_bytes(s), b) {
         return setup::blank_setup();
     }
     s

@@ -1,4 +1,4 @@
-// The numbers of an end's states and of the signals, for programs in other languages: those of a record's bytes, of commands and of logs. Any number is read back.
+// The numbers of an end's states and of the signals, for programs in other languages: those of a record's bytes, of commands and of logs. Any number is read back. (Functions, and no `From`: the types stand in `ends`, which knows no numbers.)
 #![tactic(auto)]
 
 ghost use Rattle.std.specs.Prelude.{◌≡◌};
@@ -43,18 +43,8 @@ fn status_code(s: Status) -> u8
     ensures { result ≡ status_code s }
 {
     match s {
-        Status::Unknown => 0,
-        Status::Avail => 0,
-        Status::Unavail => 0,
-        Status::None => 0,
-        Status::Dtmf(n) => n,
-        Status::Special(n) => n,
-        Status::Open => 0,
-        Status::Oack => 0,
-        Status::Onack => 0,
-        Status::Ready => 0,
-        Status::Close => 0,
-        Status::Closeack => 0,
+        Status::Dtmf(n) | Status::Special(n) => n,
+        _ => 0,
     }
 }
 
@@ -73,10 +63,8 @@ pub fn signal_tunnel(x: Signal) -> u8
     ensures { result ≡ signal_tunnel x }
 {
     match x {
-        Signal::Upack => 0,
-        Signal::Teardown => 0,
-        Signal::Downack => 0,
         Signal::Ordinary(t, _) => t,
+        _ => 0,
     }
 }
 
@@ -84,10 +72,8 @@ pub fn signal_code(x: Signal) -> u8
     ensures { result ≡ signal_code x }
 {
     match x {
-        Signal::Upack => 0,
-        Signal::Teardown => 0,
-        Signal::Downack => 0,
         Signal::Ordinary(_, s) => status_code(s),
+        _ => 0,
     }
 }
 
@@ -96,19 +82,12 @@ pub fn signal_code(x: Signal) -> u8
 pub fn state_said(n: u8) -> State
     ensures { result ≡ state_said n }
 {
-    if n == 0 {
-        return State::Idle;
-    }
-    if n == 1 {
-        return State::Requesting;
-    }
-    if n == 2 {
-        return State::Waiting;
-    }
-    if n == 3 {
-        State::Linked
-    } else {
-        State::Unlinking
+    match n {
+        0 => State::Idle,
+        1 => State::Requesting,
+        2 => State::Waiting,
+        3 => State::Linked,
+        _ => State::Unlinking,
     }
 }
 
@@ -116,60 +95,30 @@ pub fn state_said(n: u8) -> State
 pub fn status_said(n: u8, code: u8) -> Status
     ensures { result ≡ status_said n code }
 {
-    if n == 3 {
-        return Status::Unknown;
-    }
-    if n == 4 {
-        return Status::Avail;
-    }
-    if n == 5 {
-        return Status::Unavail;
-    }
-    if n == 6 {
-        return Status::None;
-    }
-    if n == 7 {
-        return Status::Dtmf(code);
-    }
-    if n == 8 {
-        return Status::Special(code);
-    }
-    if n == 11 {
-        return Status::Open;
-    }
-    if n == 12 {
-        return Status::Oack;
-    }
-    if n == 13 {
-        return Status::Onack;
-    }
-    if n == 14 {
-        return Status::Ready;
-    }
-    if n == 15 {
-        return Status::Close;
-    }
-    if n == 16 {
-        Status::Closeack
-    } else {
-        Status::Dtmf(255)
+    match n {
+        3 => Status::Unknown,
+        4 => Status::Avail,
+        5 => Status::Unavail,
+        6 => Status::None,
+        7 => Status::Dtmf(code),
+        8 => Status::Special(code),
+        11 => Status::Open,
+        12 => Status::Oack,
+        13 => Status::Onack,
+        14 => Status::Ready,
+        15 => Status::Close,
+        16 => Status::Closeack,
+        _ => Status::Dtmf(255),
     }
 }
 
 pub fn signal_said(n: u8, tunnel: u8, code: u8) -> Signal
     ensures { result ≡ signal_said n tunnel code }
 {
-    if n == 0 {
-        return Signal::Upack;
+    match n {
+        0 | 2 => Signal::Upack,
+        9 => Signal::Teardown,
+        10 => Signal::Downack,
+        _ => Signal::Ordinary(tunnel, status_said(n, code)),
     }
-    if n == 2 {
-        return Signal::Upack;
-    }
-    if n == 9 {
-        return Signal::Teardown;
-    }
-    if n == 10 {
-        return Signal::Downack;
-    }
-    Signal::Ordinary(tunnel, status_said(n, code))
 }

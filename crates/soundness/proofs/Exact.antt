@@ -1,12 +1,12 @@
 -- Any two results that a contract of this crate allows are equal: read off the contracts themselves, as the functions in src/ state them.
 -- Assumes nothing.
+use Rattle.std.specs.Prelude.{Result, ⊤}
 use mathlib.Core.Path.{◌≡◌, sym, ◌∙◌}
 use mathlib.Core.Bool.{Bool}
 use mathlib.Core.List.{List}
 use Prim.Native.Nat.{ℕ}
 use Rattle.plan.specs.declared.Subscriber.{Subscriber}
 use Rattle.plan.specs.declared.Plan.{Plan}
-use Rattle.plan.specs.declared.Verdict.{Verdict}
 use Rattle.soundness.proofs.sound.Reads as sound
 use Rattle.soundness.proofs.check.Reads as check
 use Rattle.soundness.proofs.above.Reads as above
@@ -18,12 +18,13 @@ use contract.Lifetimes.{Lfts}
 use denote.Ref.{Bor, MutBor}
 use denote.Triple.Clauses.{AtExit}
 use borrow.Fn.Kinds.{ended_of}
+use Rattle.refusal.specs.declared.Refusal.{Refusal}
 
 pub sound-exact : (plan : Plan) (r s : Bool)
     → sound.Post tt (plan, tt) r (plan, tt) → sound.Post tt (plan, tt) s (plan, tt) → r ≡ s
 sound-exact plan r s p q = p ∙ sym q
 
-pub check-exact : (plan : Plan) (r s : Verdict)
+pub check-exact : (plan : Plan) (r s : (Result ⊤ Refusal))
     → check.Post tt (plan, tt) r (plan, tt) → check.Post tt (plan, tt) s (plan, tt) → r ≡ s
 check-exact plan r s p q = p.0 ∙ sym q.0
 

@@ -1,4 +1,5 @@
 -- A box's operations change no data row that is closed to it, and no data row but the one that they name, place by place; what it reads is the number of the open one that it names; open is what the request says. Assumes nothing.
+use Rattle.std.specs.Prelude.{Option, Ok, Err, Some, None}
 use mathlib.Core.Path.{◌≡◌, refl, ap, ◌∙◌}
 use mathlib.Core.Logic.{⊎_elim}
 use mathlib.Core.Bool.{Bool, true, false, not}
@@ -11,9 +12,6 @@ use Rattle.typeset.proofs.Below.{least-has}
 use Rattle.typeset.proofs.Bools.{fails, clash, and_left, and_right}
 use Rattle.typeset.proofs.Laws.{split}
 use Rattle.store.specs.declared.Who.{Who}
-use Rattle.store.specs.declared.Access.{Access}
-use Rattle.store.specs.declared.Access.TheVariants.{NoRows, RowsOf}
-use Rattle.store.specs.declared.Answer.TheVariants.{Number, Refused}
 use Rattle.refusal.specs.declared.Refusal.TheVariants.{Closed}
 use Rattle.store.specs.Words.{relation_at, DataRow, data_row, no_row, data_row_at, with_row, is_for, is_free_place, first_for, first_free}
 use Rattle.store.specs.Access.{Allowed, access_in}
@@ -57,13 +55,13 @@ module _ (b : List ℕ) (i : ℕ) (taken : is_free_place (data_row_at b i) ≡ f
 
   -- NO ROW BUT THE ONE IT NAMES: a data row that is not the box's row of that relation and key stays
   pub other-row-stays : (w : Who) (R : List ℕ) (c : StoreOperation)
-      → ((o : ℕ) → access_in R w (relation_of c) ≡ RowsOf o → is_for (relation_of c + 1) o (key_of c) (data_row_at b i) ≡ false)
+      → ((o : ℕ) → access_in R w (relation_of c) ≡ Some o → is_for (relation_of c + 1) o (key_of c) (data_row_at b i) ≡ false)
       → data_row_at (effect R b w c).rows i ≡ data_row_at b i
   other-row-stays w R c d = by (access_in R w (relation_of c)) refl
     where
-      by : (a : Access) → access_in R w (relation_of c) ≡ a → data_row_at (effect R b w c).rows i ≡ data_row_at b i
-      by NoRows e = rw (shut R b w c e)
-      by (RowsOf o) e = rw (opened R b w c o e refl) (stays_at o c (d o e))
+      by : (a : Option ℕ) → access_in R w (relation_of c) ≡ a → data_row_at (effect R b w c).rows i ≡ data_row_at b i
+      by None e = rw (shut R b w c e)
+      by (Some o) e = rw (opened R b w c o e refl) (stays_at o c (d o e))
 
   -- NO ROW CLOSED TO THE BOX
   pub closed-row-stays : (w : Who) (R : List ℕ) (c : StoreOperation) → is_open_to R w (data_row_at b i) ≡ false → data_row_at (effect R b w c).rows i ≡ data_row_at b i
@@ -81,9 +79,9 @@ closed-rows-stay w R b i taken d (c ∷ cs) =
 
 -- ---- a data row is open to the box exactly where the request allows it: it is one of a relation, and the box is allowed its owner's rows there
 
-rows-of : (o : ℕ) (a : Access) → is_rows_of o a ≡ true → a ≡ RowsOf o
-rows-of o NoRows e = absurd (clash e refl)
-rows-of o (RowsOf o') e = ap (λ (n : ℕ). RowsOf n) (eqb-true o' o e)
+rows-of : (o : ℕ) (a : Option ℕ) → is_rows_of o a ≡ true → a ≡ Some o
+rows-of o None e = absurd (clash e refl)
+rows-of o (Some o') e = ap (λ (n : ℕ). Some n) (eqb-true o' o e)
 
 module _ (R : List ℕ) (w : Who) (x : DataRow) where
   pub open-rule : is_open_to R w x ≡ true → (x.mark ≡ 0 → ⊥) × (x.mark - 1 < 64) × Allowed (relation_at R (x.mark - 1)) w x.owner
@@ -91,7 +89,7 @@ module _ (R : List ℕ) (w : Who) (x : DataRow) where
   open-rule e =
       let access = access_in R w (x.mark - 1) in
       let taken : not (eqb x.mark 0) ≡ true = and_left (not (eqb x.mark 0)) (is_rows_of x.owner access) e in
-      let its : access ≡ RowsOf x.owner = rows-of x.owner access (and_right (not (eqb x.mark 0)) (is_rows_of x.owner access) e) in
+      let its : access ≡ Some x.owner = rows-of x.owner access (and_right (not (eqb x.mark 0)) (is_rows_of x.owner access) e) in
       let rule = access-rule R w (x.mark - 1) x.owner its in
       (λ z. clash taken (ap not (eq-eqb x.mark 0 z)), rule.0, rule.1)
 
@@ -101,18 +99,18 @@ module _ (R : List ℕ) (w : Who) (x : DataRow) where
 
 -- ---- what a read gives is the number of the data row that it names: of that relation and key, and open to the box
 
-pub read-is-open : (w : Who) (R b : List ℕ) (r k n : ℕ) → (effect R b w (read r k)).answer ≡ Number n → (o : ℕ) × OpenRow R w b r o k n
+pub read-is-open : (w : Who) (R b : List ℕ) (r k n : ℕ) → (effect R b w (read r k)).answer ≡ Ok (Some n) → (o : ℕ) × OpenRow R w b r o k n
 read-is-open w R b r k n = by (access_in R w r) refl
   where
-    never : {A : Type 0} → Refused Closed ≡ Number n → A
+    never : {A : Type 0} → Err Closed ≡ Ok (Some n) → A
     never q = let z : ◌≡◌ {A = ℕ} 0 1 = cc in absurd (omega arith)
 
-    by : (a : Access) → access_in R w r ≡ a → (effect R b w (read r k)).answer ≡ Number n → (o : ℕ) × OpenRow R w b r o k n
-    by NoRows e q = never (rw (shut R b w (read r k) e) at q)
-    by (RowsOf o) e q =
+    by : (a : Option ℕ) → access_in R w r ≡ a → (effect R b w (read r k)).answer ≡ Ok (Some n) → (o : ℕ) × OpenRow R w b r o k n
+    by None e q = never (rw (shut R b w (read r k) e) at q)
+    by (Some o) e q =
         let i = first_for b (r + 1) o k in
         ⊎_elim
-        (λ h. let same : Number (data_row_at b i).number ≡ Number n = rw (opened R b w (read r k) o e refl, read_found b i o r k h) at q in
+        (λ h. let same : Ok (Some (data_row_at b i).number) ≡ Ok (Some n) = rw (opened R b w (read r k) o e refl, read_found b i o r k h) at q in
         let number : (data_row_at b i).number ≡ n = cc in
         (o, record { place = i; low = h; is_for = place-has b (r + 1) o k h; is_open = open-for R w r o k (data_row_at b i) e (place-has b (r + 1) o k h); says = number }))
         (λ h. never (rw (opened R b w (read r k) o e refl, read-absent b i o r k h) at q))

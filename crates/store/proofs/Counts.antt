@@ -1,4 +1,5 @@
 -- How many data rows there are after an operation; and so: of two stores with equally many data rows that differ only in what is closed to a box, the box gets the same answers, 71 included. Assumes nothing.
+use Rattle.std.specs.Prelude.{Option, Some, None}
 use mathlib.Core.Path.{◌≡◌, refl, sym, ap, ap₂, ◌∙◌}
 use mathlib.Core.Logic.{⊎_elim}
 use mathlib.Core.Bool.{Bool, true, false, not, ◌&&◌}
@@ -14,8 +15,6 @@ use Rattle.typeset.proofs.Below.{least-has, count-ext, count-but}
 use Rattle.typeset.proofs.Bools.{fails, clash}
 use Rattle.typeset.proofs.Laws.{split}
 use Rattle.store.specs.declared.Who.{Who}
-use Rattle.store.specs.declared.Access.{Access}
-use Rattle.store.specs.declared.Access.TheVariants.{NoRows, RowsOf}
 use Rattle.store.specs.Words.{DataRow, data_row, no_row, data_row_at, with_row, is_for, is_free_place, first_for, first_free}
 use Rattle.store.specs.Access.{access_in}
 use Rattle.store.specs.Operations.{StoreOperation, read, write, delete, relation_of, key_of, effect_at, effect}
@@ -108,9 +107,9 @@ module _ (w : Who) (R R' b b' : List ℕ) (long : length b ≡ 4096) (long' : le
   even-after-one : (c : StoreOperation) → rows_held (effect R b w c).rows ≡ rows_held (effect R' b' w c).rows
   even-after-one c = by (access_in R w (relation_of c)) refl
     where
-      by : (a : Access) → access_in R w (relation_of c) ≡ a → rows_held (effect R b w c).rows ≡ rows_held (effect R' b' w c).rows
-      by NoRows e = rw (shut R b w c e, shut R' b' w c (sym (agree.access (relation_of c)) ∙ e)) even
-      by (RowsOf o) e =
+      by : (a : Option ℕ) → access_in R w (relation_of c) ≡ a → rows_held (effect R b w c).rows ≡ rows_held (effect R' b' w c).rows
+      by None e = rw (shut R b w c e, shut R' b' w c (sym (agree.access (relation_of c)) ∙ e)) even
+      by (Some o) e =
           rw (opened R b w c o e refl, opened R' b' w c o (sym (agree.access (relation_of c)) ∙ e) refl, told-held b long o c, told-held b' long' o c, same-room, agree.same (relation_of c) o e (key_of c), even)
 
 -- 71 TELLS HOW MANY ROWS THERE ARE, AND NOTHING ELSE: with equally many data rows, stores that agree for a box give it equal answers, whatever it does

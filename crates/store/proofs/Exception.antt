@@ -1,4 +1,5 @@
 -- That the exception is real: wherever a box may add at all, there are two stores that differ only in what is closed to it, of which one takes the row and the other has no room. Assumes nothing.
+use Rattle.std.specs.Prelude.{Ok, Err, Some, None}
 use mathlib.Core.Path.{◌≡◌, refl, ap, ◌∙◌}
 use mathlib.Core.Logic.{inl, inr}
 use mathlib.Core.Bool.{true, false}
@@ -11,8 +12,6 @@ use borrow.Author.Tests.{ne_eqb, lt-ltb}
 use Rattle.typeset.specs.Sets.{least}
 use Rattle.typeset.proofs.Below.{least-at-most, least-none}
 use Rattle.store.specs.declared.Who.{Who}
-use Rattle.store.specs.declared.Access.TheVariants.{RowsOf}
-use Rattle.store.specs.declared.Answer.TheVariants.{Done, Refused}
 use Rattle.refusal.specs.declared.Refusal.TheVariants.{StoreFull}
 use Rattle.store.specs.Words.{DataRow, data_row, data_row_at, is_for, is_free_place, first_free}
 use Rattle.store.specs.Access.{access_in}
@@ -71,8 +70,8 @@ unfolding is_open_to is_free_place access_in
 shut_none R w = refl
 
 -- THE EXCEPTION IS REAL
-pub exception-is-real : (w : Who) (R : List ℕ) (r o k n : ℕ) → access_in R w r ≡ RowsOf o
-    → DifferInClosed w R R (words 0) (words 100) × ((effect R (words 0) w (write r k n)).answer ≡ Done) × ((effect R (words 100) w (write r k n)).answer ≡ Refused StoreFull)
+pub exception-is-real : (w : Who) (R : List ℕ) (r o k n : ℕ) → access_in R w r ≡ Some o
+    → DifferInClosed w R R (words 0) (words 100) × ((effect R (words 0) w (write r k n)).answer ≡ Ok None) × ((effect R (words 100) w (write r k n)).answer ≡ Err StoreFull)
 exception-is-real w R r o k n e =
     let low : r < 64 = rows-below R w r o e in
     let other : is_for (r + 1) o k (data_row 100 100 100 100) ≡ false = differs r o k low in (

@@ -1,4 +1,5 @@
 -- Stores that differ only in rows closed to a box agree for it; there is room exactly while fewer than 1,024 rows are held, and after a delete; no row comes twice. Assumes nothing.
+use Rattle.std.specs.Prelude.{Option, Ok, Err, Some, None}
 use mathlib.Core.Path.{◌≡◌, refl, sym, ap, ◌∙◌}
 use mathlib.Core.Logic.{⊎_elim}
 use mathlib.Core.Bool.{Bool, true, false, not, ◌&&◌}
@@ -14,13 +15,10 @@ use Rattle.typeset.proofs.Below.{least-has, least-min, least-at-most, count_less
 use Rattle.typeset.proofs.Bools.{yes_or_no, fails, clash, and_left, and_right, not_of_false}
 use Rattle.typeset.proofs.Laws.{split}
 use Rattle.store.specs.declared.Who.{Who}
-use Rattle.store.specs.declared.Access.{Access}
-use Rattle.store.specs.declared.Access.TheVariants.{NoRows, RowsOf}
-use Rattle.store.specs.declared.Answer.TheVariants.{Done, Refused}
 use Rattle.refusal.specs.declared.Refusal.TheVariants.{Closed}
 use Rattle.store.specs.Words.{Relation, DataRow, data_row, no_row, data_row_at, with_row, is_for, is_free_place, first_for, first_free}
 use Rattle.store.specs.Access.{access_to, access_in}
-use Rattle.store.specs.Operations.{StoreOperation, read, write, delete, relation_of, key_of, effect_at, effect}
+use Rattle.store.specs.Operations.{Answer, StoreOperation, read, write, delete, relation_of, key_of, effect_at, effect}
 use Rattle.store.specs.Agree.{numbers_for, Agree, DifferInClosed, is_open_to, NoDoubles, rows_held, has_room}
 use Rattle.store.specs.Seen.{answer_seen, numbers_left}
 use Rattle.store.proofs.Words.{row-put-same}
@@ -32,7 +30,7 @@ use Rattle.store.proofs.Isolation.{effect-length}
 -- ---- rows that are closed
 
 -- a row that is asked for, by a box that has access to it, is open to the box
-pub open-for : (R : List ℕ) (w : Who) (r o k : ℕ) (x : DataRow) → access_in R w r ≡ RowsOf o → is_for (r + 1) o k x ≡ true → is_open_to R w x ≡ true
+pub open-for : (R : List ℕ) (w : Who) (r o k : ℕ) (x : DataRow) → access_in R w r ≡ Some o → is_for (r + 1) o k x ≡ true → is_open_to R w x ≡ true
 unfolding is_for is_open_to is_free_place
 open-for R w r o k x e f =
     let later = and_right (eqb x.mark (r + 1)) (eqb x.owner o && eqb x.key k) f in
@@ -50,7 +48,7 @@ module _ (w : Who) (R R' b b' : List ℕ) (d : DifferInClosed w R R' b b') where
       (λ h. rw (le-ltb r 64 h))
       (split r 64)
 
-  not-asked : (S : List ℕ) (r o : ℕ) → access_in S w r ≡ RowsOf o → (k : ℕ) (x : DataRow) → is_open_to S w x ≡ false → is_for (r + 1) o k x ≡ false
+  not-asked : (S : List ℕ) (r o : ℕ) → access_in S w r ≡ Some o → (k : ℕ) (x : DataRow) → is_open_to S w x ≡ false → is_for (r + 1) o k x ≡ false
   not-asked S r o e k x q = fails (is_for (r + 1) o k x) (λ p. clash (open-for S w r o k x e p) q)
 
   -- STORES THAT DIFFER ONLY IN ROWS AND RELATIONS CLOSED TO A BOX agree for it
@@ -100,15 +98,15 @@ free-again b long i h =
     let less : least 1024 (λ t. eqb (data_row_at (with_row b i no_row) t).mark 0) < 1024 = omega arith in
     lt-ltb _ 1024 less
 
-pub room-after-delete : (w : Who) (R b : List ℕ) → length b ≡ 4096 → (r k : ℕ) → (effect R b w (delete r k)).answer ≡ Done → has_room (effect R b w (delete r k)).rows ≡ true
+pub room-after-delete : (w : Who) (R b : List ℕ) → length b ≡ 4096 → (r k : ℕ) → (effect R b w (delete r k)).answer ≡ Ok None → has_room (effect R b w (delete r k)).rows ≡ true
 room-after-delete w R b long r k = by (access_in R w r) refl
   where
-    never : Refused Closed ≡ Done → ⊥
+    never : ◌≡◌ {A = Answer} (Err Closed) (Ok None) → ⊥
     never q = let z : ◌≡◌ {A = ℕ} 0 1 = cc in omega arith
 
-    by : (a : Access) → access_in R w r ≡ a → (effect R b w (delete r k)).answer ≡ Done → has_room (effect R b w (delete r k)).rows ≡ true
-    by NoRows e q = absurd (never (rw (shut R b w (delete r k) e) at q))
-    by (RowsOf o) e q =
+    by : (a : Option ℕ) → access_in R w r ≡ a → (effect R b w (delete r k)).answer ≡ Ok None → has_room (effect R b w (delete r k)).rows ≡ true
+    by None e q = absurd (never (rw (shut R b w (delete r k) e) at q))
+    by (Some o) e q =
         let i = first_for b (r + 1) o k in
         ⊎_elim
         (λ h. rw (opened R b w (delete r k) o e refl, delete-found b i o r k h) (free-again b long i h))
@@ -129,9 +127,9 @@ no-doubles w R b long s c r' o' k' = by (access_in R w (relation_of c)) refl
     few [] h (delete r k) f = zero-le
     few (x ∷ l) h (delete r k) f = omega arith
 
-    by : (a : Access) → access_in R w (relation_of c) ≡ a → length (numbers_for (effect R b w c).rows (r' + 1) o' k') ≤ 1
-    by NoRows e = rw (shut R b w c e) (s r' o' k')
-    by (RowsOf o) e =
+    by : (a : Option ℕ) → access_in R w (relation_of c) ≡ a → length (numbers_for (effect R b w c).rows (r' + 1) o' k') ≤ 1
+    by None e = rw (shut R b w c e) (s r' o' k')
+    by (Some o) e =
         rw (opened R b w c o e refl)
         (⊎_elim
         (λ d. same-request (λ m o₁ k. length (numbers_for (effect_at b (first_for b (relation_of c + 1) o (key_of c)) o c).rows m o₁ k) ≤ 1) (relation_of c + 1) o (key_of c) (r' + 1) o' k' d
@@ -141,15 +139,15 @@ no-doubles w R b long s c r' o' k' = by (access_in R w (relation_of c)) refl
 
 -- ---- with room, a box that may add a row adds it
 
-pub room-adds : (w : Who) (R b : List ℕ) → length b ≡ 4096 → has_room b ≡ true → (r o k n : ℕ) → access_in R w r ≡ RowsOf o → (effect R b w (write r k n)).answer ≡ Done
+pub room-adds : (w : Who) (R b : List ℕ) → length b ≡ 4096 → has_room b ≡ true → (r o k n : ℕ) → access_in R w r ≡ Some o → (effect R b w (write r k n)).answer ≡ Ok None
 room-adds w R b long h r o k n e = rw (opened R b w (write r k n) o e refl, (told b long o (write r k n)).0, h) (by (numbers_for b (r + 1) o k))
   where
-    by : (l : List ℕ) → answer_seen (write r k n) true l ≡ Done
+    by : (l : List ℕ) → answer_seen (write r k n) true l ≡ Ok None
     by [] = refl
     by (x ∷ l) = refl
 
 -- the place of a deleted row is used again, by any box
-pub add-after-delete : (w w' : Who) (R b : List ℕ) → length b ≡ 4096 → (r k r' o k' n : ℕ) → (effect R b w (delete r k)).answer ≡ Done → access_in R w' r' ≡ RowsOf o
-    → (effect R (effect R b w (delete r k)).rows w' (write r' k' n)).answer ≡ Done
+pub add-after-delete : (w w' : Who) (R b : List ℕ) → length b ≡ 4096 → (r k r' o k' n : ℕ) → (effect R b w (delete r k)).answer ≡ Ok None → access_in R w' r' ≡ Some o
+    → (effect R (effect R b w (delete r k)).rows w' (write r' k' n)).answer ≡ Ok None
 add-after-delete w w' R b long r k r' o k' n q e =
     room-adds w' R (effect R b w (delete r k)).rows (effect-length w R b long (delete r k)) (room-after-delete w R b long r k q) r' o k' n e

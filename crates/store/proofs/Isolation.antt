@@ -1,4 +1,5 @@
 -- What a box may learn of a store (02, ask 12): two stores that differ only in what is closed to it answer it alike, and go on to differ only in that; but for the refusal 71. Assumes nothing.
+use Rattle.std.specs.Prelude.{Option, Ok, Err, Some, None}
 use mathlib.Core.Path.{◌≡◌, refl, sym, ap, ap₂, ◌∙◌}
 use mathlib.Core.Logic.{⊎_elim}
 use mathlib.Core.Bool.{Bool, true, false, false≢true, true≢false}
@@ -8,14 +9,10 @@ use native.Mathlib.Omega.{arith}
 use lib.ListN.{length}
 use Rattle.typeset.proofs.Bools.{yes_or_no}
 use Rattle.store.specs.declared.Who.{Who}
-use Rattle.store.specs.declared.Access.{Access}
-use Rattle.store.specs.declared.Access.TheVariants.{NoRows, RowsOf}
 use Rattle.refusal.specs.declared.Refusal.TheVariants.{Closed}
-use Rattle.store.specs.declared.Answer.{Answer}
-use Rattle.store.specs.declared.Answer.TheVariants.{Number, Done, Refused}
 use Rattle.store.specs.Words.{data_row, is_for, first_for}
 use Rattle.store.specs.Access.{access_in}
-use Rattle.store.specs.Operations.{StoreOperation, read, write, delete, Effect, relation_of, key_of, effect_at, effect}
+use Rattle.store.specs.Operations.{Answer, StoreOperation, read, write, delete, Effect, relation_of, key_of, effect_at, effect}
 use Rattle.store.specs.Agree.{numbers_for, Agree, says_full, all_answers, rows_after, has_room}
 use Rattle.store.specs.Seen.{answer_seen, numbers_left}
 use Rattle.store.proofs.Effects.{shut, opened}
@@ -36,9 +33,9 @@ by-room (delete r k) f g (n ∷ l) e = (refl, refl)
 pub effect-length : (w : Who) (R b : List ℕ) → length b ≡ 4096 → (c : StoreOperation) → length (effect R b w c).rows ≡ 4096
 effect-length w R b long c = by (access_in R w (relation_of c)) refl
   where
-    by : (a : Access) → access_in R w (relation_of c) ≡ a → length (effect R b w c).rows ≡ 4096
-    by NoRows e = rw (shut R b w c e) long
-    by (RowsOf o) e = ap (λ (x : Effect). length x.rows) (opened R b w c o e refl) ∙ made-length b long o c
+    by : (a : Option ℕ) → access_in R w (relation_of c) ≡ a → length (effect R b w c).rows ≡ 4096
+    by None e = rw (shut R b w c e) long
+    by (Some o) e = ap (λ (x : Effect). length x.rows) (opened R b w c o e refl) ∙ made-length b long o c
 
 module _ (w : Who) (R R' b b' : List ℕ) (long : length b ≡ 4096) (long' : length b' ≡ 4096) (agree : Agree w R R' b b') (c : StoreOperation) where
   abbrev T : Effect
@@ -51,14 +48,14 @@ module _ (w : Who) (R R' b b' : List ℕ) (long : length b ≡ 4096) (long' : le
   abbrev Alike : Type 0
   Alike = says_full T.answer ≡ says_full T'.answer → (T.answer ≡ T'.answer) × Agree w R R' T.rows T'.rows
 
-  closed-alike : access_in R w (relation_of c) ≡ NoRows → Alike
+  closed-alike : access_in R w (relation_of c) ≡ None → Alike
   closed-alike e n = rw (shut R b w c e, shut R' b' w c (sym (agree.access (relation_of c)) ∙ e)) (refl, agree)
 
-  open-alike : (o : ℕ) → access_in R w (relation_of c) ≡ RowsOf o → Alike
+  open-alike : (o : ℕ) → access_in R w (relation_of c) ≡ Some o → Alike
   open-alike o e n =
       let r = relation_of c in
       let k = key_of c in
-      let e' : access_in R' w r ≡ RowsOf o = sym (agree.access r) ∙ e in
+      let e' : access_in R' w r ≡ Some o = sym (agree.access r) ∙ e in
       let at : T ≡ effect_at b (first_for b (r + 1) o k) o c = opened R b w c o e refl in
       let at' : T' ≡ effect_at b' (first_for b' (r + 1) o k) o c = opened R' b' w c o e' refl in
       let sees : numbers_for b (r + 1) o k ≡ numbers_for b' (r + 1) o k = agree.same r o e k in
@@ -70,7 +67,7 @@ module _ (w : Who) (R R' b b' : List ℕ) (long : length b ≡ 4096) (long' : le
       let alike = by-room c (has_room b) (has_room b') (numbers_for b (r + 1) o k) (ap says_full (sym a) ∙ n ∙ ap says_full a') in
       let there : numbers_for T.rows (r + 1) o k ≡ numbers_for T'.rows (r + 1) o k =
       ap (λ (x : Effect). numbers_for x.rows (r + 1) o k) at ∙ t.1 ∙ alike.1 ∙ ap (numbers_left c (has_room b')) sees ∙ sym (ap (λ (x : Effect). numbers_for x.rows (r + 1) o k) at' ∙ t'.1) in
-      let other-numbers-stay : (r₁ o₁ : ℕ) → access_in R w r₁ ≡ RowsOf o₁ → (k₁ : ℕ) → is_for (r₁ + 1) o₁ k₁ (data_row (r + 1) o k 0) ≡ false
+      let other-numbers-stay : (r₁ o₁ : ℕ) → access_in R w r₁ ≡ Some o₁ → (k₁ : ℕ) → is_for (r₁ + 1) o₁ k₁ (data_row (r + 1) o k 0) ≡ false
       → numbers_for T.rows (r₁ + 1) o₁ k₁ ≡ numbers_for T'.rows (r₁ + 1) o₁ k₁ =
       λ r₁ o₁ e₁ k₁ d. ap (λ (x : Effect). numbers_for x.rows (r₁ + 1) o₁ k₁) at ∙ kept b long o r₁ o₁ k₁ c d ∙ agree.same r₁ o₁ e₁ k₁
       ∙ sym (ap (λ (x : Effect). numbers_for x.rows (r₁ + 1) o₁ k₁) at' ∙ kept b' long' o r₁ o₁ k₁ c d) in (
@@ -84,9 +81,9 @@ module _ (w : Who) (R R' b b' : List ℕ) (long : length b ≡ 4096) (long' : le
         },
       )
 
-  alike-by : (a : Access) → access_in R w (relation_of c) ≡ a → Alike
-  alike-by NoRows e = closed-alike e
-  alike-by (RowsOf o) e = open-alike o e
+  alike-by : (a : Option ℕ) → access_in R w (relation_of c) ≡ a → Alike
+  alike-by None e = closed-alike e
+  alike-by (Some o) e = open-alike o e
 
   -- ONE OPERATION: where both stores refuse it for want of room, or neither does, the answers are equal, and the stores still differ only in what is closed to the box
   pub alike-after-one : says_full T.answer ≡ says_full T'.answer → (T.answer ≡ T'.answer) × Agree w R R' T.rows T'.rows
@@ -109,13 +106,13 @@ isolation w R R' b b' long long' agree (c ∷ cs) e =
 
 module _ (w : Who) (R b : List ℕ) (long : length b ≡ 4096) where
   -- the answer of an operation is 71 or not as its numbers and the room have it
-  answer-by : (c : StoreOperation) (P : Answer → Type 0) → P (Refused Closed) → ((o : ℕ) → access_in R w (relation_of c) ≡ RowsOf o → P (answer_seen c (has_room b) (numbers_for b (relation_of c + 1) o (key_of c))))
+  answer-by : (c : StoreOperation) (P : Answer → Type 0) → P (Err Closed) → ((o : ℕ) → access_in R w (relation_of c) ≡ Some o → P (answer_seen c (has_room b) (numbers_for b (relation_of c + 1) o (key_of c))))
       → P (effect R b w c).answer
   answer-by c P shutP openP = by (access_in R w (relation_of c)) refl
     where
-      by : (a : Access) → access_in R w (relation_of c) ≡ a → P (effect R b w c).answer
-      by NoRows e = rw (shut R b w c e) shutP
-      by (RowsOf o) e = rw (opened R b w c o e refl, (told b long o c).0) (openP o e)
+      by : (a : Option ℕ) → access_in R w (relation_of c) ≡ a → P (effect R b w c).answer
+      by None e = rw (shut R b w c e) shutP
+      by (Some o) e = rw (opened R b w c o e refl, (told b long o c).0) (openP o e)
 
   -- never by a read or a delete
   pub read-never-full : (r k : ℕ) → says_full (effect R b w (read r k)).answer ≡ false
@@ -133,16 +130,16 @@ module _ (w : Who) (R b : List ℕ) (long : length b ≡ 4096) where
       by (n ∷ l) = refl
 
   -- nor by a write over a row that is there: one that a read finds
-  pub write-over-never-full : (r k x n : ℕ) → (effect R b w (read r k)).answer ≡ Number x → (effect R b w (write r k n)).answer ≡ Done
+  pub write-over-never-full : (r k x n : ℕ) → (effect R b w (read r k)).answer ≡ Ok (Some x) → (effect R b w (write r k n)).answer ≡ Ok None
   write-over-never-full r k x n = by (access_in R w r) refl
     where
-      seen : (l : List ℕ) → answer_seen (read r k) (has_room b) l ≡ Number x → answer_seen (write r k n) (has_room b) l ≡ Done
+      seen : (l : List ℕ) → answer_seen (read r k) (has_room b) l ≡ Ok (Some x) → answer_seen (write r k n) (has_room b) l ≡ Ok None
       seen [] q = let z : ◌≡◌ {A = ℕ} 0 1 = cc in absurd (omega arith)
       seen (y ∷ l) q = refl
 
-      by : (a : Access) → access_in R w r ≡ a → (effect R b w (read r k)).answer ≡ Number x → (effect R b w (write r k n)).answer ≡ Done
-      by NoRows e q = let no : Refused Closed ≡ Number x = rw (shut R b w (read r k) e) at q in let z : ◌≡◌ {A = ℕ} 0 1 = cc in absurd (omega arith)
-      by (RowsOf o) e q =
+      by : (a : Option ℕ) → access_in R w r ≡ a → (effect R b w (read r k)).answer ≡ Ok (Some x) → (effect R b w (write r k n)).answer ≡ Ok None
+      by None e q = let no : Err Closed ≡ Ok (Some x) = rw (shut R b w (read r k) e) at q in let z : ◌≡◌ {A = ℕ} 0 1 = cc in absurd (omega arith)
+      by (Some o) e q =
           rw (opened R b w (write r k n) o e refl, (told b long o (write r k n)).0)
           (seen (numbers_for b (r + 1) o k) (rw (opened R b w (read r k) o e refl, (told b long o (read r k)).0) at q))
 
@@ -154,7 +151,7 @@ module _ (w : Who) (R R' b b' : List ℕ) (long : length b ≡ 4096) (long' : le
   reads-alike r k = (alike-after-one w R R' b b' long long' agree (read r k) (read-never-full w R b long r k ∙ sym (read-never-full w R' b' long' r k))).0
 
   -- and to writes over an existing row
-  pub writes-over-alike : (r k x n : ℕ) → (effect R b w (read r k)).answer ≡ Number x → (effect R b w (write r k n)).answer ≡ (effect R' b' w (write r k n)).answer
+  pub writes-over-alike : (r k x n : ℕ) → (effect R b w (read r k)).answer ≡ Ok (Some x) → (effect R b w (write r k n)).answer ≡ (effect R' b' w (write r k n)).answer
   writes-over-alike r k x n e = write-over-never-full w R b long r k x n e ∙ sym (write-over-never-full w R' b' long' r k x n (sym (reads-alike r k) ∙ e))
 
   pub deletes-alike : (r k : ℕ) → (effect R b w (delete r k)).answer ≡ (effect R' b' w (delete r k)).answer
@@ -164,7 +161,7 @@ module _ (w : Who) (R R' b b' : List ℕ) (long : length b ≡ 4096) (long' : le
   pub full-alike : has_room b ≡ has_room b' → (c : StoreOperation) → says_full (effect R b w c).answer ≡ says_full (effect R' b' w c).answer
   full-alike h c = by (access_in R w (relation_of c)) refl
     where
-      by : (a : Access) → access_in R w (relation_of c) ≡ a → says_full (effect R b w c).answer ≡ says_full (effect R' b' w c).answer
-      by NoRows e = rw (shut R b w c e, shut R' b' w c (sym (agree.access (relation_of c)) ∙ e))
-      by (RowsOf o) e =
+      by : (a : Option ℕ) → access_in R w (relation_of c) ≡ a → says_full (effect R b w c).answer ≡ says_full (effect R' b' w c).answer
+      by None e = rw (shut R b w c e, shut R' b' w c (sym (agree.access (relation_of c)) ∙ e))
+      by (Some o) e =
           rw (opened R b w c o e refl, opened R' b' w c o (sym (agree.access (relation_of c)) ∙ e) refl, (told b long o c).0, (told b' long' o c).0, h, agree.same (relation_of c) o e (key_of c))

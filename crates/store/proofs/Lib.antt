@@ -11,3 +11,4 @@ pub mod Others
 pub mod Rules
 pub mod Exact
 pub mod Exception
+pub mod Searches

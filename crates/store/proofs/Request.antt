@@ -1,10 +1,10 @@
 -- The sentences of 02's ask 12 on what a box may learn, for stores that differ only in rows and relations that are closed to it, as the ask says it. Any numbers are a store; the lengths are those of the lent memory. Assumes nothing.
+use Rattle.std.specs.Prelude.{Ok, Some}
 use mathlib.Core.Path.{◌≡◌}
 use mathlib.Core.List.{List, map}
 use Prim.Native.Nat.{ℕ}
 use lib.ListN.{length}
 use Rattle.store.specs.declared.Who.{Who}
-use Rattle.store.specs.declared.Answer.TheVariants.{Number}
 use Rattle.store.specs.Operations.{StoreOperation, read, write, delete, effect}
 use Rattle.store.specs.Agree.{DifferInClosed, rows_held, says_full, all_answers}
 use Rattle.store.proofs.Isolation as agreeing
@@ -17,7 +17,7 @@ module _ (w : Who) (R R' b b' : List ℕ) (long : length b ≡ 4096) (long' : le
   equal-reads r k = agreeing.reads-alike w R R' b b' long long' (closed-differ-agree w R R' b b' d) r k
 
   -- "and to writes over an existing row": one that a read finds
-  pub equal-writes-over : (r k x n : ℕ) → (effect R b w (read r k)).answer ≡ Number x → (effect R b w (write r k n)).answer ≡ (effect R' b' w (write r k n)).answer
+  pub equal-writes-over : (r k x n : ℕ) → (effect R b w (read r k)).answer ≡ Ok (Some x) → (effect R b w (write r k n)).answer ≡ (effect R' b' w (write r k n)).answer
   equal-writes-over r k x n e = agreeing.writes-over-alike w R R' b b' long long' (closed-differ-agree w R R' b b' d) r k x n e
 
   -- and to deletes

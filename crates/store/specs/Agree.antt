@@ -1,21 +1,17 @@
 -- When two stores differ only in what is closed to a box; when a store has no doubles, and how many data rows it holds; and what the box gets from a run of operations. Assumes nothing.
-use Rattle.std.specs.Prelude.{ℕ, zero, suc, ◌+◌, ◌-◌, ◌<◌, ◌≤◌, ◌≡◌, ◌⊎◌, Bool, true, false, cond, not, ◌&&◌, List, [], ◌∷◌, eqb, ltb, length}
+use Rattle.std.specs.Prelude.{ℕ, zero, suc, ◌+◌, ◌-◌, ◌<◌, ◌≤◌, ◌≡◌, ◌⊎◌, Bool, true, false, cond, not, ◌&&◌, List, [], ◌∷◌, eqb, ltb, length, Option, Ok, Err, Some, None}
 use Rattle.typeset.specs.Sets.{count}
 use Rattle.refusal.specs.Numbers.{number_of}
 use Rattle.store.specs.declared.Who.{Who}
-use Rattle.store.specs.declared.Access.{Access}
-use Rattle.store.specs.declared.Access.TheVariants.{NoRows, RowsOf}
-use Rattle.store.specs.declared.Answer.{Answer}
-use Rattle.store.specs.declared.Answer.TheVariants.{Number, Done, Refused}
 use Rattle.store.specs.Words.{DataRow, relation_at, data_row_at, is_free_place, is_for, first_free}
 use Rattle.store.specs.Access.{access_in}
-use Rattle.store.specs.Operations.{StoreOperation, effect}
+use Rattle.store.specs.Operations.{Answer, StoreOperation, effect}
 
 -- ---- in the request's words
 
-abbrev pub is_rows_of : ℕ → Access → Bool
-is_rows_of o NoRows = false
-is_rows_of o (RowsOf o') = eqb o' o
+abbrev pub is_rows_of : ℕ → Option ℕ → Bool
+is_rows_of o None = false
+is_rows_of o (Some o') = eqb o' o
 
 -- what stands at a place is a data row that the box may use: `open-rule` and `open-rule-back` (proofs/Closed) hold it against `Allowed`
 unfoldable pub is_open_to : List ℕ → Who → DataRow → Bool
@@ -32,7 +28,7 @@ pub record OpenRow (R : List ℕ) (w : Who) (b : List ℕ) (r o k n : ℕ) : Typ
 -- "two stores that differ only in rows and relations closed to a box"
 pub record DifferInClosed (w : Who) (relations relations' b b' : List ℕ) : Type 0 where
   pub of_relations : (r : ℕ) → r < 64
-      → (relation_at relations r ≡ relation_at relations' r) ⊎ ((access_in relations w r ≡ NoRows) × (access_in relations' w r ≡ NoRows))
+      → (relation_at relations r ≡ relation_at relations' r) ⊎ ((access_in relations w r ≡ None) × (access_in relations' w r ≡ None))
   pub of_rows : (i : ℕ) → i < 1024
       → (data_row_at b i ≡ data_row_at b' i) ⊎ ((is_open_to relations w (data_row_at b i) ≡ false) × (is_open_to relations' w (data_row_at b' i) ≡ false))
 
@@ -50,7 +46,7 @@ numbers_for b m o k = gather 1024 (λ i. is_for m o k (data_row_at b i)) (λ i. 
 -- each relation gives the box the same access, and where that is to the rows of an owner, the stores have the same numbers for each of his keys
 pub record Agree (w : Who) (relations relations' b b' : List ℕ) : Type 0 where
   pub access : (r : ℕ) → access_in relations w r ≡ access_in relations' w r
-  pub same : (r o : ℕ) → access_in relations w r ≡ RowsOf o → (k : ℕ) → numbers_for b (r + 1) o k ≡ numbers_for b' (r + 1) o k
+  pub same : (r o : ℕ) → access_in relations w r ≡ Some o → (k : ℕ) → numbers_for b (r + 1) o k ≡ numbers_for b' (r + 1) o k
 
 -- ---- doubles and room
 
@@ -70,9 +66,9 @@ has_room b = ltb (first_free b) 1024
 
 -- the refusal 71
 abbrev pub says_full : Answer → Bool
-says_full (Number n) = false
-says_full Done = false
-says_full (Refused x) = eqb (number_of x) 71
+says_full (Ok (Some n)) = false
+says_full (Ok None) = false
+says_full (Err x) = eqb (number_of x) 71
 
 -- a box's operations, one after the other: the answers, and the data rows left
 unfoldable pub all_answers : List ℕ → List ℕ → Who → List StoreOperation → List Answer

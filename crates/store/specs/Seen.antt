@@ -1,21 +1,19 @@
 -- What the proofs go by: an operation by what its box sees; where a search stops. No public promise and no theorem for the reader cites this. Assumes nothing.
-use Rattle.std.specs.Prelude.{ℕ, suc, ◌-◌, ◌≤◌, ◌<◌, ◌≡◌, ◌⊎◌, Bool, true, false, cond, List, [], ◌∷◌}
+use Rattle.std.specs.Prelude.{ℕ, suc, ◌-◌, ◌≤◌, ◌<◌, ◌≡◌, ◌⊎◌, Bool, true, false, cond, List, [], ◌∷◌, Ok, Err, Some, None}
 use Rattle.refusal.specs.declared.Refusal.TheVariants.{Closed, StoreFull}
-use Rattle.store.specs.declared.Answer.{Answer}
-use Rattle.store.specs.declared.Answer.TheVariants.{Number, Done, Refused}
 use Rattle.store.specs.Words.{data_row_at, is_free_place, is_for}
-use Rattle.store.specs.Operations.{StoreOperation, read, write, delete}
+use Rattle.store.specs.Operations.{Answer, StoreOperation, read, write, delete}
 
 -- ---- an operation by the numbers l that the store has for its row, and by whether there is a free place
 
 -- the answer
 abbrev pub answer_seen : StoreOperation → Bool → List ℕ → Answer
-answer_seen (read r k) room [] = Refused Closed
-answer_seen (read r k) room (n ∷ l) = Number n
-answer_seen (write r k n) room [] = cond room Done (Refused StoreFull)
-answer_seen (write r k n) room (x ∷ l) = Done
-answer_seen (delete r k) room [] = Refused Closed
-answer_seen (delete r k) room (n ∷ l) = Done
+answer_seen (read r k) room [] = Err Closed
+answer_seen (read r k) room (n ∷ l) = Ok (Some n)
+answer_seen (write r k n) room [] = cond room (Ok None) (Err StoreFull)
+answer_seen (write r k n) room (x ∷ l) = Ok None
+answer_seen (delete r k) room [] = Err Closed
+answer_seen (delete r k) room (n ∷ l) = Ok None
 
 -- the numbers that are then there for that row
 abbrev pub numbers_left : StoreOperation → Bool → List ℕ → List ℕ

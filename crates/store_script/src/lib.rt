@@ -1,9 +1,11 @@
-// What `forwarding` and `store_trials` share: a store with what is provisioned beside it, by value, and what a box does with it under the teaching plan, to which a script may add types.
+// What `forwarding` and `store_trials` share: a store with what is provisioned beside it, and what a box does with it under the teaching plan, to which a script may add types.
 #![tactic(auto)]
 
 use plan::Plan;
-use store::Answer;
+use refusal::Refusal;
+use std::fmt;
 
+// The words as operations are lent them.
 #[derive(Clone, Copy)]
 pub struct Stored {
     // Types that exist besides those of the teaching plan.
@@ -14,201 +16,143 @@ pub struct Stored {
     pub rows: [u32; 4096],
 }
 
-#[derive(Clone, Copy)]
-pub struct Done {
-    pub stored: Stored,
-    pub answer: Answer,
+// A box by its type and its address.
+#[derive(Clone, Copy, PartialEq, Eq, Debug)]
+pub struct FeatureBox {
+    pub of_type: u8,
+    pub address: u32,
 }
 
-pub fn fresh() -> Stored {
-    Stored {
-        more_types: 0,
-        features: [0u32; 32],
-        owners: [0u32; 512],
-        relations: [0u32; 128],
-        rows: [0u32; 4096],
+#[derive(Clone, Copy, PartialEq, Eq, Debug)]
+pub struct Row {
+    pub mark: u32,
+    pub owner: u32,
+    pub key: u32,
+    pub number: u32,
+}
+
+impl fmt::Display for Row {
+    fn fmt<W: fmt::Write>(&self, f: &mut fmt::Formatter<W>) -> fmt::Result {
+        write!(f, "mark {}, owner {}, ", self.mark, self.owner)?;
+        write!(f, "key {}, number {}", self.key, self.number)
     }
 }
 
-// A number that is too large for a word is 0.
-pub fn word_of(n: u64) -> u32 {
-    if n <= 4_294_967_295 { n as u32 } else { 0 }
-}
-
-// A type above 255 is 255, which no plan has.
-pub fn type_of(t: u32) -> u8 {
-    if t < 256 { t as u8 } else { 255 }
-}
-
-// ---- setting words
-
-pub fn with_relation(s: Stored, r: u32, feature: u32, customers: u32) -> Stored {
-    let mut t = s;
-    if r < 64 {
-        let at = 2 * (r as usize);
-        t.relations[at] = feature;
-        t.relations[at + 1] = customers;
+// Pair i of the words; what is past the last is left out.
+fn set_two(words: &mut [u32], i: u32, two: [u32; 2]) {
+    if let Some(pair) = words.chunks_exact_mut(2).nth(i as usize) {
+        pair.copy_from_slice(&two);
     }
-    t
 }
 
-pub fn with_feature(s: Stored, t: u32, feature: u32) -> Stored {
-    let mut r = s;
-    if t < 32 {
-        let at = t as usize;
-        r.features[at] = feature;
+impl Stored {
+    pub fn new() -> Self {
+        Stored {
+            more_types: 0,
+            features: [0; 32],
+            owners: [0; 512],
+            relations: [0; 128],
+            rows: [0; 4096],
+        }
     }
-    r
-}
 
-// The plan has the type.
-pub fn with_type(s: Stored, t: u32) -> Stored {
-    let mut r = s;
-    if t < 32 {
-        r.more_types = typeset::join(r.more_types, 1u32 << t);
+    // ---- setting words; what a place is past the last is left out
+
+    pub fn set_relation(&mut self, r: u32, feature: u32, customers: u32) {
+        set_two(&mut self.relations, r, [feature, customers]);
     }
-    r
-}
 
-pub fn with_pair(s: Stored, i: u32, address: u32, customer: u32) -> Stored {
-    let mut t = s;
-    if i < 256 {
-        let at = 2 * (i as usize);
-        t.owners[at] = address;
-        t.owners[at + 1] = customer;
+    pub fn set_feature(&mut self, t: u32, feature: u32) {
+        if let Some(word) = self.features.get_mut(t as usize) {
+            *word = feature;
+        }
     }
-    t
-}
 
-fn with_row(s: Stored, i: usize, row: [u32; 4], key: u32) -> Stored {
-    let mut t = s;
-    if i < 1024 {
-        let at = 4 * i;
-        t.rows[at] = row[0];
-        t.rows[at + 1] = row[1];
-        t.rows[at + 2] = key;
-        t.rows[at + 3] = row[3];
+    // The plan has the type.
+    pub fn add_type(&mut self, t: u32) {
+        if t < 32 {
+            self.more_types |= 1 << t;
+        }
     }
-    t
-}
 
-// A row at each place from one to another, with keys that count up.
-pub fn with_rows(s: Stored, from: u32, to: u32, row: [u32; 4]) -> Stored {
-    let mut t = s;
-    let mut key = row[2];
-    for i in 0usize..1024usize {
-        if from as usize <= i && i <= to as usize {
-            t = with_row(t, i, row, key);
+    pub fn set_pair(&mut self, i: u32, address: u32, customer: u32) {
+        set_two(&mut self.owners, i, [address, customer]);
+    }
+
+    // The row at each place from one to another, with keys that count up.
+    pub fn fill_rows(&mut self, from: u32, to: u32, first: Row) {
+        let mut key = first.key;
+        let rows = self.rows.chunks_exact_mut(4);
+        let up_to = to.saturating_add(1) as usize;
+        for row in rows.take(up_to).skip(from as usize) {
+            row.copy_from_slice(&[first.mark, first.owner, key, first.number]);
             key = key.wrapping_add(1);
         }
     }
-    t
-}
 
-// ---- looking
+    // ---- looking
 
-pub fn row_at(s: Stored, i: u32) -> [u32; 4] {
-    let rows = s.rows;
-    if i < 1024 {
-        let at = 4 * (i as usize);
-        return [rows[at], rows[at + 1], rows[at + 2], rows[at + 3]];
-    }
-    [0u32; 4]
-}
-
-pub fn same_rows(a: Stored, b: Stored) -> bool {
-    let x = a.rows;
-    let y = b.rows;
-    for i in 0usize..4096usize {
-        if x[i] != y[i] {
-            return false;
+    // All 0 past the last.
+    pub fn row_at(&self, i: u32) -> Row {
+        let at = (i as usize).saturating_mul(4);
+        let word = |j: usize| self.rows.get(at.saturating_add(j)).copied().unwrap_or(0);
+        Row {
+            mark: word(0),
+            owner: word(1),
+            key: word(2),
+            number: word(3),
         }
     }
-    true
-}
 
-// ---- what a box does
-
-// The teaching plan, with those types more.
-fn plan_of(s: Stored) -> Plan {
-    let mut p = teaching::teaching_plan();
-    let mut types = p.types;
-    types.existing = typeset::join(types.existing, s.more_types);
-    p.types = types;
-    p
-}
-
-pub fn read(s: Stored, t: u8, address: u32, r: u32, key: u32) -> Answer {
-    let features = s.features;
-    let owners = s.owners;
-    let relations = s.relations;
-    let rows = s.rows;
-    owners::read_as(
-        plan_of(s),
-        &features,
-        &owners,
-        t,
-        address,
-        &relations,
-        &rows,
-        r,
-        key,
-    )
-}
-
-pub fn write(s: Stored, t: u8, address: u32, r: u32, key: u32, number: u32) -> Done {
-    let features = s.features;
-    let owners = s.owners;
-    let relations = s.relations;
-    let mut rows = s.rows;
-    let answer = owners::write_as(
-        plan_of(s),
-        &features,
-        &owners,
-        t,
-        address,
-        &relations,
-        &mut rows,
-        r,
-        key,
-        number,
-    );
-    Done {
-        stored: Stored {
-            more_types: s.more_types,
-            features,
-            owners,
-            relations,
-            rows,
-        },
-        answer,
+    // The teaching plan, with those types more.
+    fn plan(&self) -> Plan {
+        let mut plan = teaching::teaching_plan();
+        plan.types.existing |= self.more_types;
+        plan
     }
-}
 
-pub fn delete(s: Stored, t: u8, address: u32, r: u32, key: u32) -> Done {
-    let features = s.features;
-    let owners = s.owners;
-    let relations = s.relations;
-    let mut rows = s.rows;
-    let answer = owners::delete_as(
-        plan_of(s),
-        &features,
-        &owners,
-        t,
-        address,
-        &relations,
-        &mut rows,
-        r,
-        key,
-    );
-    Done {
-        stored: Stored {
-            more_types: s.more_types,
-            features,
-            owners,
-            relations,
-            rows,
-        },
-        answer,
+    // ---- what a box does
+
+    pub fn read(&self, by: FeatureBox, r: u32, key: u32) -> Result<u32, Refusal> {
+        owners::read_as(
+            self.plan(),
+            &self.features,
+            &self.owners,
+            by.of_type,
+            by.address,
+            &self.relations,
+            &self.rows,
+            r,
+            key,
+        )
+    }
+
+    pub fn write(&mut self, by: FeatureBox, r: u32, key: u32, number: u32) -> Result<(), Refusal> {
+        owners::write_as(
+            self.plan(),
+            &self.features,
+            &self.owners,
+            by.of_type,
+            by.address,
+            &self.relations,
+            &mut self.rows,
+            r,
+            key,
+            number,
+        )
+    }
+
+    pub fn delete(&mut self, by: FeatureBox, r: u32, key: u32) -> Result<(), Refusal> {
+        owners::delete_as(
+            self.plan(),
+            &self.features,
+            &self.owners,
+            by.of_type,
+            by.address,
+            &self.relations,
+            &mut self.rows,
+            r,
+            key,
+        )
     }
 }

@@ -61,7 +61,7 @@ fn subscriber(
 fn subscribers() -> [Subscriber; 256]
     ensures { result ≡ subscribers }
 {
-    let nobody = subscriber(0, 0, 0, 0, 0, 0, 0);
+    let nobody = plan::no_subscriber();
     let mut all = [nobody; 256];
     all[0] = subscriber(1, 200, 0b10110, 0b10100, 7, 0, 1);
     all[1] = subscriber(1, 300, 0b10100, 0b111100, 8, 0, 1);

@@ -23,8 +23,10 @@ use Rattle.ends.specs.declared.Side.{Side}
 use Rattle.ends.specs.declared.Side.TheVariants.{Callee}
 use Rattle.call.specs.declared.Command.{Command}
 use Rattle.call.specs.declared.Command.TheVariants.{Accept, Busy, Unobtainable, Send, Teardown as Hang-up, Deliver}
-use Rattle.ends.specs.declared.Verdict.{Verdict}
-use Rattle.ends.specs.declared.Verdict.TheVariants.{Refuse as refuse, Become as become}
+use Rattle.std.specs.Prelude.{Result, Ok, Err}
+use Rattle.refusal.specs.declared.Refusal.{Refusal}
+use Rattle.ends.specs.declared.State.{State}
+use Rattle.std.specs.Prelude.{Ok, Err}
 use Rattle.call.specs.Protocol.{actor, is_waiting, is_linked, is_ordinary, within, passed, reply, decide, sends, hands, fit, channels_by}
 use Rattle.call.specs.History.{handed, is_delivery}
 use Rattle.teardown.proofs.Phase.{Lawful, Fitting, none', tear', down', both', ord', Flow, shut', rest', up', Shape, cap, at}
@@ -40,21 +42,21 @@ left (Send e t x) w = w
 left (Hang-up e) w = w
 left (Deliver e) w = drop 1 w
 
-pub data Fate (k : Command) (b : State) (cs ds : List ℕ) (w v : List Signal) (u tm dm ty dy : ℕ) : Verdict → Type 0 where
-  not_so : (r : Refusal) → number_of r ≢ 17 → Fate k b cs ds w v u tm dm ty dy (refuse r)
+pub data Fate (k : Command) (b : State) (cs ds : List ℕ) (w v : List Signal) (u tm dm ty dy : ℕ) : Result State Refusal → Type 0 where
+  not_so : (r : Refusal) → number_of r ≢ 17 → Fate k b cs ds w v u tm dm ty dy (Err r)
   so : {a' : State} → cond (is_delivery k) 1 0 ≡ length (handed (hands k w)) → length v + length (sends k w) ≤ 16
       → Next (actor k) a' b (left k w) v (sends k w) u tm dm ty dy → Wires (actor k) (channels_by k w cs) ds (left k w) (v ++ sends k w)
-      → Fate k b cs ds w v u tm dm ty dy (become a')
+      → Fate k b cs ds w v u tm dm ty dy (Ok a')
 
 so-fit : {k : Command} {a' b : State} {cs ds : List ℕ} {w v : List Signal} {u tm dm ty dy : ℕ}
     → cond (is_delivery k) 1 0 ≡ length (handed (hands k w)) → length v + length (sends k w) ≤ 16
     → Next (actor k) a' b (left k w) v (sends k w) u tm dm ty dy → Wires (actor k) (channels_by k w cs) ds (left k w) (v ++ sends k w)
-    → Fate k b cs ds w v u tm dm ty dy (fit (become a') (length v + length (sends k w)))
+    → Fate k b cs ds w v u tm dm ty dy (fit (Ok a') (length v + length (sends k w)))
 so-fit d h s q = rw (le-leb _ _ h) (so d h s q)
 
 -- the callee's answers, from the one phase that has a waiting end
 accept : {b : State} {cs ds : List ℕ} {w v : List Signal} {u tm dm ty dy : ℕ} {i o : Shape} → Phase Callee Waiting b i o u tm dm ty dy → Flow w i → Flow v o
-    → Wires Callee cs ds w v → Fate Accept b cs ds w v u tm dm ty dy (fit (become Linked) (length v + 1))
+    → Wires Callee cs ds w v → Fate Accept b cs ds w v u tm dm ty dy (fit (Ok Linked) (length v + 1))
 accept asked shut' shut' q = so refl (omega arith) (at upack-to-them shut' (up' none') (omega arith) (omega arith)) (wires-silent (Upack ∷ []) (λ t h. refl) q)
 
 -- three signals in no tunnel from 1 on
@@ -62,20 +64,20 @@ silent-three : (x : Status) → Silent (Upack ∷ Ordinary 0 x ∷ Teardown ∷ 
 silent-three x t h = rw (ne_eqb 0 t (λ p. omega arith))
 
 busy : {b : State} {cs ds : List ℕ} {w v : List Signal} {u tm dm ty dy : ℕ} {i o : Shape} → Phase Callee Waiting b i o u tm dm ty dy → Flow w i → Flow v o
-    → Wires Callee cs ds w v → Fate Busy b cs ds w v u tm dm ty dy (fit (become Unlinking) (length v + 3))
+    → Wires Callee cs ds w v → Fate Busy b cs ds w v u tm dm ty dy (fit (Ok Unlinking) (length v + 3))
 busy asked shut' shut' q =
     so refl (omega arith) (at early-to-them shut' (up' (ord' (refl, refl) tear')) (omega arith) (omega arith))
     (wires-silent (Upack ∷ Ordinary 0 Unavail ∷ Teardown ∷ []) (silent-three Unavail) q)
 
 unobtainable : {b : State} {cs ds : List ℕ} {w v : List Signal} {u tm dm ty dy : ℕ} {i o : Shape} → Phase Callee Waiting b i o u tm dm ty dy → Flow w i → Flow v o
-    → Wires Callee cs ds w v → Fate Unobtainable b cs ds w v u tm dm ty dy (fit (become Unlinking) (length v + 3))
+    → Wires Callee cs ds w v → Fate Unobtainable b cs ds w v u tm dm ty dy (fit (Ok Unlinking) (length v + 3))
 unobtainable asked shut' shut' q =
     so refl (omega arith) (at early-to-them shut' (up' (ord' (refl, refl) tear')) (omega arith) (omega arith))
     (wires-silent (Upack ∷ Ordinary 0 Unknown ∷ Teardown ∷ []) (silent-three Unknown) q)
 
 -- a teardown, and an ordinary signal, from a linked end
 hang-up : {e : Side} {b : State} {cs ds : List ℕ} {w v : List Signal} {u tm dm ty dy : ℕ} {i o : Shape} → Phase e Linked b i o u tm dm ty dy → Flow w i → Flow v o
-    → length w ≤ cap i → length v ≤ cap o → Wires e cs ds w (v ++ Teardown ∷ []) → Fate (Hang-up e) b cs ds w v u tm dm ty dy (fit (become Unlinking) (length v + 1))
+    → length w ≤ cap i → length v ≤ cap o → Wires e cs ds w (v ++ Teardown ∷ []) → Fate (Hang-up e) b cs ds w v u tm dm ty dy (fit (Ok Unlinking) (length v + 1))
 hang-up upack-to-them f (up' g) h k q = so-fit refl (omega arith) (at early-to-them f (up' (add-teardown g)) h (simp length-append (omega arith))) q
 hang-up linked f (rest' g) h k q = so-fit refl (omega arith) (at i-tear f (rest' (add-teardown g)) h (simp length-append (omega arith))) q
 hang-up they-tear f (rest' g) h k q = so-fit refl (omega arith) (at crossed f (rest' (add-teardown g)) h (simp length-append (omega arith))) q
@@ -83,7 +85,7 @@ hang-up they-tear f (rest' g) h k q = so-fit refl (omega arith) (at crossed f (r
 send : {e : Side} {b : State} {cs ds : List ℕ} {w v : List Signal} {u tm dm ty dy : ℕ} {i o : Shape} (t : ℕ) (x : Status) → Lawful t x
     → Phase e Linked b i o u tm dm ty dy → Flow w i → Flow v o
     → length w ≤ cap i → length v < 14 → Wires e (passed e true (Ordinary t x) cs) ds w (v ++ Ordinary t x ∷ [])
-    → Fate (Send e t x) b cs ds w v u tm dm ty dy (fit (become Linked) (length v + 1))
+    → Fate (Send e t x) b cs ds w v u tm dm ty dy (fit (Ok Linked) (length v + 1))
 send t x l upack-to-them f (up' g) h k q = so-fit refl (omega arith) (at upack-to-them f (up' (add-ordinary t x l g)) h (simp length-append (omega arith))) q
 send t x l linked f (rest' g) h k q = so-fit refl (omega arith) (at linked f (rest' (add-ordinary t x l g)) h (simp length-append (omega arith))) q
 send t x l they-tear f (rest' g) h k q = so-fit refl (omega arith) (at they-tear f (rest' (add-ordinary t x l g)) h (simp length-append (omega arith))) q
@@ -95,7 +97,7 @@ forbidden-not false = λ z. omega arith
 
 send-tests : {e : Side} {b : State} {cs ds : List ℕ} {w v : List Signal} {u tm dm ty dy : ℕ} (t : ℕ) (x : Status) → Stage e Linked b w v u tm dm ty dy → Wires e cs ds w v
     → (l f m : Bool) → is_ordinary t x ≡ l → fits e true t x cs ≡ f → ltb (length v) 14 ≡ m
-    → Fate (Send e t x) b cs ds w v u tm dm ty dy (fit (cond l (cond f (cond m (become Linked) (refuse TooManyWaiting)) (refuse (forbidden x))) (refuse NotOrdinary)) (length v + 1))
+    → Fate (Send e t x) b cs ds w v u tm dm ty dy (fit (cond l (cond f (cond m (Ok Linked) (Err TooManyWaiting)) (Err (forbidden x))) (Err NotOrdinary)) (length v + 1))
 send-tests {e} {cs = cs} t x s c true true true p q r =
     send t x (p, fits-sound e t x cs q) s.phase s.come s.go s.come-room (ltb-true _ _ r) (wires-sends t x q c)
 send-tests t x s c true true false p q r = not_so TooManyWaiting (λ z. omega arith)
@@ -132,9 +134,9 @@ handing {a = a} {cs = cs} {w = x ∷ w} s q =
     rw (d.taken cs p.0) (so-fit refl d.room d.stage p.1)
 
 -- what only a waiting end, or only a linked end, may do
-module _ {e : Side} {k : Command} {b : State} {cs ds : List ℕ} {w v : List Signal} {u tm dm ty dy : ℕ} (y : Verdict) (n : ℕ) where
+module _ {e : Side} {k : Command} {b : State} {cs ds : List ℕ} {w v : List Signal} {u tm dm ty dy : ℕ} (y : Result State Refusal) (n : ℕ) where
   if-waiting : (a : State) → Stage e a b w v u tm dm ty dy → (Stage e Waiting b w v u tm dm ty dy → Fate k b cs ds w v u tm dm ty dy (fit y n))
-      → Fate k b cs ds w v u tm dm ty dy (fit (cond (is_waiting a) y (refuse StateForbids)) n)
+      → Fate k b cs ds w v u tm dm ty dy (fit (cond (is_waiting a) y (Err StateForbids)) n)
   if-waiting Waiting s f = f s
   if-waiting Idle s f = not_so StateForbids (λ z. omega arith)
   if-waiting Requesting s f = not_so StateForbids (λ z. omega arith)
@@ -142,7 +144,7 @@ module _ {e : Side} {k : Command} {b : State} {cs ds : List ℕ} {w v : List Sig
   if-waiting Unlinking s f = not_so StateForbids (λ z. omega arith)
 
   if-linked : (a : State) → Stage e a b w v u tm dm ty dy → (Stage e Linked b w v u tm dm ty dy → Fate k b cs ds w v u tm dm ty dy (fit y n))
-      → Fate k b cs ds w v u tm dm ty dy (fit (cond (is_linked a) y (refuse StateForbids)) n)
+      → Fate k b cs ds w v u tm dm ty dy (fit (cond (is_linked a) y (Err StateForbids)) n)
   if-linked Linked s f = f s
   if-linked Idle s f = not_so StateForbids (λ z. omega arith)
   if-linked Requesting s f = not_so StateForbids (λ z. omega arith)

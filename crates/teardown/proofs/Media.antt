@@ -21,16 +21,18 @@ use Rattle.ends.specs.declared.Side.TheVariants.{Caller, Callee}
 use Rattle.ends.specs.declared.Status.{Status}
 use Rattle.ends.specs.declared.Signal.{Signal}
 use Rattle.ends.specs.declared.Signal.TheVariants.{Upack, Ordinary, Teardown, Downack}
-use Rattle.ends.specs.declared.Verdict.{Verdict}
-use Rattle.ends.specs.declared.Verdict.TheVariants.{Refuse as refuse, Become as become}
+use Rattle.std.specs.Prelude.{Result, Ok, Err}
+use Rattle.refusal.specs.declared.Refusal.{Refusal}
+use Rattle.ends.specs.declared.State.{State}
+use Rattle.std.specs.Prelude.{Ok, Err}
 use Rattle.ends.specs.Ends.{opens, kind_of, no_channel_signal, channel_at, next_channel, fits, forbidden, is_ordinary, is_linked}
 use Rattle.tunnels.specs.Tunnels.{under}
 use Rattle.tunnels.proofs.Wires.{under-append, own-channel, other-channel, may_send as may-send-in, wires-go-on}
 use Rattle.call.specs.declared.Queue.{Queue}
 use Rattle.call.specs.declared.Call.{Call}
 use Rattle.call.specs.declared.Step.{Step}
-use Rattle.call.specs.declared.Answer.{Answer}
-use Rattle.call.specs.declared.Answer.TheVariants.{Accepted}
+use Rattle.call.specs.Protocol.{Answer}
+use Rattle.std.specs.Prelude.{None, Ok, Err}
 use Rattle.call.specs.declared.Command.{Command}
 use Rattle.call.specs.declared.Command.TheVariants.{Accept, Busy, Unobtainable, Send, Teardown as Hang-up, Deliver}
 use Rattle.call.specs.Protocol.{actor, other, end_of, queue_to, waiting, within, passed, takes, decide, fit, verdict, channels_by, hands, moved, refusing, outcome, step, placed}
@@ -41,42 +43,37 @@ use Rattle.teardown.proofs.Trace.{tally-append}
 use Rattle.teardown.proofs.Theorem.{placed-ran, in_order}
 
 -- WHAT IS ACCEPTED WAS FIT FOR ITS CHANNEL
-is-become : Verdict → Bool
-is-become (refuse r) = false
-is-become (become s) = true
-
 not-both : true ≡ false → ⊥
 not-both e = eqb-false 0 0 e refl
 
-not-become : {A : Type 0} {r : Refusal} {s : State} → refuse r ≡ become s → A
-unfolding is-become
-not-become e = absurd (not-both (sym (ap is-become e)))
+not-become : {A : Type 0} {r : Refusal} {s : State} → Err r ≡ Ok s → A
+not-become e = absurd (cc)
 
-fit-become : (v : Verdict) (m : ℕ) {s : State} → fit v m ≡ become s → v ≡ become s
-fit-become (refuse r) m e = not-become e
-fit-become (become a) m {s} e = go (leb m 16) e
+fit-become : (v : Result State Refusal) (m : ℕ) {s : State} → fit v m ≡ Ok s → v ≡ Ok s
+fit-become (Err r) m e = not-become e
+fit-become (Ok a) m {s} e = go (leb m 16) e
   where
-    go : (b : Bool) → cond b (become a) (refuse BrokenRecord) ≡ become s → become a ≡ become s
+    go : (b : Bool) → cond b (Ok a) (Err BrokenRecord) ≡ Ok s → ◌≡◌ {A = Result State Refusal} (Ok a) (Ok s)
     go true e = e
     go false e = not-become e
 
-counts-become : (b : Bool) (v : Verdict) {s : State} → cond b v (refuse BrokenRecord) ≡ become s → v ≡ become s
+counts-become : (b : Bool) (v : Result State Refusal) {s : State} → cond b v (Err BrokenRecord) ≡ Ok s → v ≡ Ok s
 counts-become true v e = e
 counts-become false v e = not-become e
 
 speak-fits : (x : Status) {s : State} (l o f n : Bool)
-    → cond l (cond o (cond f (cond n (become Linked) (refuse TooManyWaiting)) (refuse (forbidden x))) (refuse NotOrdinary)) (refuse StateForbids) ≡ become s → f ≡ true
+    → cond l (cond o (cond f (cond n (Ok Linked) (Err TooManyWaiting)) (Err (forbidden x))) (Err NotOrdinary)) (Err StateForbids) ≡ Ok s → f ≡ true
 speak-fits x true true true n e = refl
 speak-fits x true true false n e = not-become e
 speak-fits x true false f n e = not-become e
 speak-fits x false o f n e = not-become e
 
-hear-fits : (a : State) {s : State} (o f : Bool) → cond o (cond f (become a) (refuse BrokenRecord)) (refuse BrokenRecord) ≡ become s → f ≡ true
+hear-fits : (a : State) {s : State} (o f : Bool) → cond o (cond f (Ok a) (Err BrokenRecord)) (Err BrokenRecord) ≡ Ok s → f ≡ true
 hear-fits a true true e = refl
 hear-fits a true false e = not-become e
 hear-fits a false f e = not-become e
 
-take-fits : (s : Side) (a : State) (cs : List ℕ) (t : ℕ) (x : Status) {b : State} → takes s (within a cs) (Ordinary t x) ≡ become b → fits s false t x cs ≡ true
+take-fits : (s : Side) (a : State) (cs : List ℕ) (t : ℕ) (x : Status) {b : State} → takes s (within a cs) (Ordinary t x) ≡ Ok b → fits s false t x cs ≡ true
 take-fits s Idle cs t x e = not-become e
 take-fits s Requesting cs t x e = not-become e
 take-fits s Waiting cs t x e = not-become e
@@ -99,7 +96,7 @@ Fitting (Send s t x) cs w = fits s true t x cs ≡ true
 Fitting (Hang-up s) cs w = Unit {0}
 Fitting (Deliver s) cs w = HeadFits s cs w
 
-fitting : (k : Command) (e : End) (w : List Signal) (n : ℕ) {s : State} → decide k e w n ≡ become s → Fitting k e.channels w
+fitting : (k : Command) (e : End) (w : List Signal) (n : ℕ) {s : State} → decide k e w n ≡ Ok s → Fitting k e.channels w
 fitting Accept e w n h = tt
 fitting Busy e w n h = tt
 fitting Unobtainable e w n h = tt
@@ -113,14 +110,14 @@ fitting (Deliver s) e (Downack ∷ w) n h = tt
 
 data Did (c : Call) (k : Command) : Step → Type 0 where
   refused-it : (r : Refusal) → Did c k (refusing c r)
-  did-it : (s : State) → Fitting k (end_of (actor k) c).channels (waiting (actor k) c) → Did c k (outcome c k (become s))
+  did-it : (s : State) → Fitting k (end_of (actor k) c).channels (waiting (actor k) c) → Did c k (outcome c k (Ok s))
 
 did : (c : Call) (k : Command) → Did c k (step c k)
 did c k = go (verdict c k) refl
   where
-    go : (v : Verdict) → verdict c k ≡ v → Did c k (outcome c k v)
-    go (refuse r) e = refused-it r
-    go (become s) e =
+    go : (v : Result State Refusal) → verdict c k ≡ v → Did c k (outcome c k v)
+    go (Err r) e = refused-it r
+    go (Ok s) e =
         did-it s
         (fitting k (end_of (actor k) c) (waiting (actor k) c) (queue_to (other (actor k)) c).count
         (fit-become _ _ (counts-become (leb c.to_caller.count 16 && leb c.to_callee.count 16) _ e)))
@@ -225,10 +222,10 @@ open-fits s t x cs o f = go (eqb t 0) f
         (q.0, q.1, rw (own-channel cs t (next_channel s true t x cs) (omega (arith, q.1))) u.0)
 
 send-opened : (t : ℕ) (c : Call) (s : Side) (u : ℕ) (x : Status) (a : State) → fits s true u x (end_of s c).channels ≡ true
-    → Opened t (Send s u x) c Accepted (outcome c (Send s u x) (become a)).call
+    → Opened t (Send s u x) c (Ok None) (outcome c (Send s u x) (Ok a)).call
 send-opened t c s u x a f = go (eqb (kind_of x) «open») (eqb u t) refl refl
   where
-    go : (p q : Bool) → eqb (kind_of x) «open» ≡ p → eqb u t ≡ q → Opened t (Send s u x) c Accepted (outcome c (Send s u x) (become a)).call
+    go : (p q : Bool) → eqb (kind_of x) «open» ≡ p → eqb u t ≡ q → Opened t (Send s u x) c (Ok None) (outcome c (Send s u x) (Ok a)).call
     go true true p q =
         let y = open-fits s u x (end_of s c).channels (eqb-true (kind_of x) «open» p) f in
         rw (← eqb-true u t q)

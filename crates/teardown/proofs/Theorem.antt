@@ -13,16 +13,18 @@ use Rattle.ends.specs.declared.State.TheVariants.{Idle, Requesting, Waiting, Lin
 use Rattle.ends.specs.declared.End.{End}
 use Rattle.ends.specs.declared.Signal.{Signal}
 use Rattle.ends.specs.declared.Signal.TheVariants.{Upack, Ordinary, Teardown, Downack}
-use Rattle.call.specs.declared.Answer.{Answer}
-use Rattle.call.specs.declared.Answer.TheVariants.{Accepted, Delivered, Refused}
+use Rattle.call.specs.Protocol.{Answer}
+use Rattle.std.specs.Prelude.{Some, None, Ok, Err}
 use Rattle.call.specs.declared.Queue.{Queue}
 use Rattle.call.specs.declared.Call.{Call}
 use Rattle.ends.specs.declared.Side.{Side}
 use Rattle.ends.specs.declared.Side.TheVariants.{Caller, Callee}
 use Rattle.call.specs.declared.Command.{Command}
 use Rattle.call.specs.declared.Command.TheVariants.{Accept, Busy, Unobtainable, Send, Teardown as Hang-up, Deliver}
-use Rattle.ends.specs.declared.Verdict.{Verdict}
-use Rattle.ends.specs.declared.Verdict.TheVariants.{Refuse as refuse, Become as become}
+use Rattle.std.specs.Prelude.{Result, Ok, Err}
+use Rattle.refusal.specs.declared.Refusal.{Refusal}
+use Rattle.ends.specs.declared.State.{State}
+use Rattle.std.specs.Prelude.{Ok, Err}
 use Rattle.call.specs.Protocol.{actor, other, end_of, state_of, queue_to, waiting, is_idle, is_free, within, decide, reply, sends, hands, fit, verdict, channels_by, moved, outcome, step, placed}
 use Rattle.call.specs.History.{accepted, allows, sent_with, after, if_by, sent, received, deliveries, tally, upack, ordinary, teardown, downack, sent_of, waiting_of, waiting_both_ways}
 use Rattle.teardown.specs.Teardown.{Closes, Demand3, OfFour, accepting, tearing, to_caller, to_callee, NoDeadlock, EndsIdle, InOrder, Never17, NeverUnfit, Bounded, QueuesBounded, NothingElse, RefusedSame, KeepsItsUse}
@@ -148,11 +150,11 @@ not_full shut' f = f
 not_full (rest' none') f = f
 
 -- a command whose verdict is no refusal is accepted
-goes : (c : Call) (k : Command) (st : State) → verdict c k ≡ become st → T (allows c k)
+goes : (c : Call) (k : Command) (st : State) → verdict c k ≡ Ok st → T (allows c k)
 goes c k st p = rw p (is_true (accepted (hands k (waiting (actor k) c))) (hands-accepted k (waiting (actor k) c)).0)
 
 ready : {e : Side} {a b : State} {cs ds : List ℕ} {w v : List Signal} {u tm dm ty dy : ℕ} (s : Stage e a b w v u tm dm ty dy) → Wires e cs ds w v → Full s.i
-    → (a' : State) × (fit (decide (Deliver e) (within a cs) w (length v)) (length v + length (reply w)) ≡ become a')
+    → (a' : State) × (fit (decide (Deliver e) (within a cs) w (length v)) (length v + length (reply w)) ≡ Ok a')
 ready {w = []} s q f = absurd (not_full s.come f)
 ready {a = a} {cs = cs} {w = x ∷ w} s q f =
     let d = deliver-at s.come s.phase s.go s.come-room s.go-room in
@@ -259,7 +261,7 @@ nothing_else c d ks ls ends waits uses =
 
 -- AN IDLE END DOES NOTHING
 idle-refuses : (c : Call) (k : Command) (e : End) (w : List Signal) (n m : ℕ) (b : Bool) → e.state ≡ Idle
-    → T (not (accepted (outcome c k (cond b (fit (decide k e w n) m) (refuse BrokenRecord))).answer))
+    → T (not (accepted (outcome c k (cond b (fit (decide k e w n) m) (Err BrokenRecord))).answer))
 idle-refuses c k e w n m false p = tt
 idle-refuses c Accept e w n m true p = rw p tt
 idle-refuses c Busy e w n m true p = rw p tt
@@ -274,9 +276,9 @@ ends_idle c k t =
     idle-refuses c k (end_of (actor k) c) (waiting (actor k) c) (queue_to (other (actor k)) c).count ((queue_to (other (actor k)) c).count + length (sends k (waiting (actor k) c)))
     (leb c.to_caller.count 16 && leb c.to_callee.count 16) (idle-end (actor k) c t)
 
-refused_as : (c : Call) (k : Command) (v : Verdict) → T (not (accepted (outcome c k v).answer)) → (outcome c k v).call ≡ c
-refused_as c k (refuse r) n = refl
-refused_as c k (become e) n = absurd (rw (hands-accepted k (waiting (actor k) c)).0 at n)
+refused_as : (c : Call) (k : Command) (v : Result State Refusal) → T (not (accepted (outcome c k v).answer)) → (outcome c k v).call ≡ c
+refused_as c k (Err r) n = refl
+refused_as c k (Ok e) n = absurd (rw (hands-accepted k (waiting (actor k) c)).0 at n)
 
 pub refused_same : RefusedSame
 refused_same c k n = refused_as c k (verdict c k) n
@@ -286,9 +288,9 @@ moved-use : (s : Side) (e : End) (i o : Queue) (c : Call) → (moved s e i o c).
 moved-use Caller e i o c = refl
 moved-use Callee e i o c = refl
 
-use-as : (c : Call) (k : Command) (v : Verdict) → (outcome c k v).call.use_number ≡ c.use_number
-use-as c k (refuse r) = refl
-use-as c k (become st) = moved-use (actor k) (within st (channels_by k (waiting (actor k) c) (end_of (actor k) c).channels)) _ _ c
+use-as : (c : Call) (k : Command) (v : Result State Refusal) → (outcome c k v).call.use_number ≡ c.use_number
+use-as c k (Err r) = refl
+use-as c k (Ok st) = moved-use (actor k) (within st (channels_by k (waiting (actor k) c) (end_of (actor k) c).channels)) _ _ c
 
 pub keeps_its_use : KeepsItsUse
 keeps_its_use c k = use-as c k (verdict c k)
@@ -327,9 +329,9 @@ one_of_two (Deliver e) (Teardown ∷ w) = omega arith
 one_of_two (Deliver e) (Downack ∷ w) = omega arith
 
 by_answer : (k : Command) (a : Answer) → tally teardown (sent_with k a) + tally downack (sent_with k a) ≤ 1
-by_answer k Accepted = one_of_two k []
-by_answer k (Delivered x) = one_of_two k (x ∷ [])
-by_answer k (Refused r) = omega arith
+by_answer k (Ok None) = one_of_two k []
+by_answer k (Ok (Some x)) = one_of_two k (x ∷ [])
+by_answer k (Err r) = omega arith
 
 -- what one more command adds to an end's history
 snoc : (f : Signal → ℕ) (s : Side) (c : Call) (ks : List Command) (k : Command)

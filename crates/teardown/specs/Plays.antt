@@ -142,7 +142,7 @@ limit_with_upack = refl
 -- THE TABLES OF docs/CALLS.md
 -- a record of any kind: the ends' states, the counts, and the signal in every slot of each queue
 abbrev pub filled_with : Signal → ℕ → Queue
-filled_with x n = record { slots = replicate 16 (record { signal = x }); count = n }
+filled_with x n = record { slots = replicate 16 x; count = n }
 
 abbrev pub made : State → State → ℕ → ℕ → Signal → Signal → Call
 made a b n m x y =

@@ -1,13 +1,14 @@
 -- Bytes stored in a room from a place on, as many as fit. Assumes nothing.
-use mathlib.Core.Path.{◌≡◌, refl, ap}
+use mathlib.Core.Path.{◌≡◌, refl, sym, ap, ◌∙◌}
 use mathlib.Core.Logic.{⊎_elim}
-use mathlib.Core.List.{List, [], ◌∷◌, ◌++◌}
+use mathlib.Core.List.{List, [], ◌∷◌, ◌++◌, append_assoc}
 use Prim.Native.Nat.{ℕ, zero, suc, ◌+◌, ◌-◌, ◌≤◌, ◌<◌, min}
 use native.Mathlib.Nat.{not-suc-le-zero}
-use native.Mathlib.Numerals.{add-one}
 use native.Mathlib.Omega.{arith}
-use lib.ListN.{length, get_or, set, drop, drop_of_length-le}
-use lib.Seq.{sets, drop-cons}
+use lib.ListN.{length, set, drop, take, length-set}
+use lib.Seq.{sets, sets-eq}
+use borrow.Rule.Slice.PartMut.{post_of, Post-is}
+use Rattle.std.proofs.lemmas.List.{length-take-le}
 use Rattle.typeset.proofs.Laws.{split}
 
 -- past the end nothing is stored
@@ -20,20 +21,25 @@ pub sets-past : (l : List ℕ) (i : ℕ) (xs : List ℕ) → length l ≤ i → 
 sets-past l i [] h = refl
 sets-past l i (x ∷ xs) h = rw (set_past l i x h) (sets-past l (suc i) xs (omega arith))
 
--- one stored, and the others after it
-pub store-next : (room bytes : List ℕ) (at i : ℕ) → i < length bytes
-    → sets room (at + i) (drop i bytes) ≡ sets (set room (at + i) (get_or bytes i 0)) (at + (i + 1)) (drop (i + 1) bytes)
-store-next room bytes at i h =
-    let more : at + (i + 1) ≡ suc (at + i) = omega arith in
-    rw (drop-cons bytes i 0 h, more, add-one i)
+-- stored where they fit, and cut where they do not
+pub sets-cut : (l : List ℕ) (i n : ℕ) (xs : List ℕ) → n ≡ min (length xs) (length l - i) → sets l i xs ≡ sets l i (take n xs)
+sets-cut l i zero [] e = refl
+sets-cut l i (suc n) [] e = refl
+sets-cut l i zero (x ∷ xs) e = sets-past l i (x ∷ xs) (omega (arith, e))
+sets-cut l i (suc n) (x ∷ xs) e = sets-cut (set l i x) (suc i) n xs (let same = length-set l i x in omega (arith, e, same))
 
--- all that fit are stored
-pub store-done : (room bytes : List ℕ) (at i : ℕ) → i ≡ min (length bytes) (length room - at) → sets room (at + i) (drop i bytes) ≡ room
-store-done room bytes at i e =
-    ⊎_elim
-    (λ (h : i < length bytes). let past : length room ≤ at + i = omega arith in sets-past room (at + i) (drop i bytes) past)
-    (λ (h : length bytes ≤ i). rw (drop_of_length-le bytes h))
-    (split i (length bytes))
+-- as the store of a slice leaves the room: with its place and its length brought within the room
+pub put-is : (room bytes : List ℕ) (at from n : ℕ) → from ≡ min at (length room) → n ≡ min (length bytes) (length room - from)
+    → take from room ++ (take n bytes ++ post_of from (from + n - from) room) ≡ sets room at bytes
+put-is room bytes at from n f e =
+    let size : length (take n bytes) ≡ n = length-take-le n bytes (omega (arith, e)) in
+    let fits : from + length (take n bytes) ≤ length room = omega (arith, f, e, size) in
+    let rest : post_of from (from + n - from) room ≡ drop (from + n) room = Post-is from (from + n) room (omega arith) in
+    let stored : sets room from (take n bytes) ≡ take from room ++ (take n bytes ++ drop (from + n) room) = (let e = sets-eq {A = ℕ} (take n bytes) room from fits in rw size at e) ∙ append_assoc (take from room) (take n bytes) (drop (from + n) room) in
+    rw rest (sym stored) ∙ ⊎_elim
+    (λ (h : at < length room). let same : from ≡ at = omega (arith, f, h) in rw same (sym (sets-cut room at n bytes (rw same at e))))
+    (λ (h : length room ≤ at). sets-past room from (take n bytes) (omega (arith, f, h)) ∙ sym (sets-past room at bytes h))
+    (split at (length room))
 
 -- one text after the other is both
 pub sets-both : (l : List ℕ) (i : ℕ) (xs ys : List ℕ) → sets (sets l i xs) (i + length xs) ys ≡ sets l i (xs ++ ys)

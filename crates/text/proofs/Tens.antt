@@ -2,7 +2,7 @@
 use mathlib.Core.Path.{◌≡◌, refl, sym, ap, ◌∙◌}
 use mathlib.Core.Bool.{true, false}
 use mathlib.Core.List.{List, ◌++◌}
-use Prim.Native.Nat.{ℕ, zero, suc, ◌+◌, ◌-◌, ◌/◌, ◌%◌, ◌≤◌, ◌<◌}
+use Prim.Native.Nat.{ℕ, zero, suc, ◌+◌, ◌-◌, ◌/◌, ◌%◌, ◌≤◌, ◌<◌, min}
 use native.Mathlib.Numerals.{add-one}
 use native.Mathlib.Omega.{arith}
 use lib.Dec.{ltb}
@@ -68,6 +68,16 @@ digits_are n =
     let fits : 0 + length (decimal n) ≤ length blank = omega (arith, (decimal-some n).1) in
     let front : sets blank 0 (decimal n) ≡ decimal n ++ drop (0 + length (decimal n)) blank = sets-eq (decimal n) blank 0 fits in
     ap (take (length (decimal n))) front ∙ take_at (decimal n) (drop (0 + length (decimal n)) blank) (length (decimal n)) refl
+
+digits-size : (n : ℕ) → (digits n).len ≡ length (decimal n)
+unfolding digits
+digits-size n = refl
+
+-- and so are the first of them, of which there are ten at most
+pub digits_cut : (n : ℕ) → take (min (digits n).len 10) (digits n).bytes ≡ decimal n
+digits_cut n =
+    let low : min (digits n).len 10 ≡ (digits n).len = (let size = digits-size n in omega (arith, size, (decimal-some n).1)) in
+    rw low (digits_are n)
 
 pub digits-fit : (n : ℕ) → length (digits n).bytes ≡ 10
 unfolding digits

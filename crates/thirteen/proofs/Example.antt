@@ -16,7 +16,7 @@ use Rattle.routing.specs.Steps.{target1}
 use Rattle.text.specs.Decimal.{tens, size as digitCount, last_digits, decimal}
 use Rattle.journey.specs.Hops.{visits, both_zones, journey}
 use Rattle.journey.specs.Listing.{head_line, line, lines, listing}
-use Rattle.journey.specs.Desk.{space_in, address_text, string_text, readable, told, desk_text}
+use Rattle.journey.specs.Desk.{space_in, address_text, string_text, readable, desk_text}
 use Rattle.journey.proofs.Walks.{visits-both}
 use Rattle.thirteen.specs.Example.{input, shown, Example}
 
@@ -30,5 +30,5 @@ unfolding has every some least count set_of without lowest size minus legal give
 listed = refl
 
 pub example : Example
-unfolding input space_in least address_text string_text readable told desk_text every digit all_digits number_from coded skipped after_code writes_address dialled300
+unfolding input space_in least address_text string_text readable desk_text every digit all_digits number_from coded skipped after_code writes_address dialled300
 example = rw (p5-made, visited) listed

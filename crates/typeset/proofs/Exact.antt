@@ -1,6 +1,6 @@
 -- Any two results that a contract of this crate allows are equal: read off the contracts themselves, as the functions in src/ state them.
 -- Assumes nothing.
-use mathlib.Core.Path.{◌≡◌, sym, ◌∙◌}
+use mathlib.Core.Path.{◌≡◌, sym, ap, ◌∙◌}
 use mathlib.Core.Bool.{Bool}
 use Prim.Native.Nat.{ℕ}
 use Rattle.typeset.proofs.has.Reads as has
@@ -11,6 +11,8 @@ use Rattle.typeset.proofs.size.Reads as size
 use Rattle.typeset.proofs.join.Reads as join
 use Rattle.typeset.proofs.meet.Reads as meet
 use Rattle.typeset.proofs.minus.Reads as minus
+use Rattle.typeset.proofs.Members.of.Reads as of
+use Rattle.typeset.specs.declared.Members.{Members}
 
 pub has-exact : (set t : ℕ) (r s : Bool)
     → has.Post tt (set, (t, tt)) r (set, (t, tt)) → has.Post tt (set, (t, tt)) s (set, (t, tt)) → r ≡ s
@@ -43,3 +45,7 @@ meet-exact a b r s p q = p ∙ sym q
 pub minus-exact : (a b : ℕ) (r s : ℕ)
     → minus.Post tt (a, (b, tt)) r (a, (b, tt)) → minus.Post tt (a, (b, tt)) s (a, (b, tt)) → r ≡ s
 minus-exact a b r s p q = p ∙ sym q
+
+pub of-exact : (set : ℕ) (r s : Members)
+    → of.Post tt (set, tt) r (set, tt) → of.Post tt (set, tt) s (set, tt) → r ≡ s
+of-exact set r s p q = ap (λ (n : ℕ). record { left = n }) (p ∙ sym q)

@@ -3,3 +3,5 @@ pub mod Below
 pub mod Laws
 pub mod Taken
 pub mod Exact
+pub mod Listed
+pub mod InTurn

@@ -1,9 +1,9 @@
 -- Sets of box types: a number below 2 ^ 32, whose bit t says whether the type t is in. The one basic notion is `has`.
 -- Every other definition takes a test p on numbers, and goes through the numbers below n, 0 first:
 -- `every n p`, all pass; `some n p`, one passes; `least n p`, the first that passes (n where none does);
--- `count n p`, how many pass; `set_of n p`, the set of those that pass.
+-- `count n p`, how many pass; `set_of n p`, the set of those that pass; `listed n p`, the list of them.
 -- Assumes nothing.
-use Rattle.std.specs.Prelude.{ℕ, zero, suc, ◌+◌, ◌*◌, ◌/◌, ◌%◌, ◌^◌, Bool, true, false, not, ◌&&◌, ◌||◌, eqb}
+use Rattle.std.specs.Prelude.{ℕ, zero, suc, ◌+◌, ◌*◌, ◌/◌, ◌%◌, ◌^◌, Bool, true, false, not, ◌&&◌, ◌||◌, List, [], ◌∷◌, map, eqb}
 
 -- the type t is in the set s: bit t of s is 1
 unfoldable pub has : ℕ → ℕ → Bool
@@ -39,6 +39,15 @@ unfoldable pub set_of : ℕ → (ℕ → Bool) → ℕ
 set_of zero p = 0
 set_of (suc n) p = set_of n (λ t. p (suc t)) * 2 + digit (p 0)
 
+-- 0 where it passed, before what follows
+abbrev pub put_first : Bool → List ℕ → List ℕ
+put_first true ts = 0 ∷ ts
+put_first false ts = ts
+
+unfoldable pub listed : ℕ → (ℕ → Bool) → List ℕ
+listed zero p = []
+listed (suc n) p = put_first (p 0) (map suc (listed n (λ t. p (suc t))))
+
 -- s without t
 unfoldable pub without : ℕ → ℕ → ℕ
 without s t = set_of 32 (λ u. has u s && not (eqb u t))
@@ -66,6 +75,10 @@ minus a b = set_of 32 (λ t. has t a && not (has t b))
 -- the types that are in both a and b
 unfoldable pub meet : ℕ → ℕ → ℕ
 meet a b = set_of 32 (λ t. has t a && has t b)
+
+-- the types of s, the lowest first
+unfoldable pub members : ℕ → List ℕ
+members s = listed 32 (λ t. has t s)
 
 -- ---- tests
 

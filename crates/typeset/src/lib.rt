@@ -2,13 +2,15 @@
 #![tactic(auto)]
 
 ghost use Rattle.std.specs.Prelude.{◌≡◌};
-ghost use Rattle.typeset.specs.Sets.{has, without, within, lowest, size, join, meet, minus};
+ghost use Rattle.std.specs.Iterator.{YieldsFirst, item_count};
+ghost use Rattle.typeset.specs.Sets.{has, without, within, lowest, size, join, meet, minus, members};
 
 // Whether the type t is in the set. No type above 31 is in any set.
+#[tactic(auto, unfolding(crate::specs::Sets::has))]
 pub fn has(set: u32, t: u32) -> bool
     ensures { result ≡ has t set }
 {
-    if t < 32 { (set >> t) % 2 == 1 } else { false }
+    t < 32 && (set >> t) % 2 == 1
 }
 
 // The set without the type t.
@@ -29,14 +31,14 @@ pub fn within(part: u32, whole: u32) -> bool
 pub fn lowest(set: u32) -> u32
     ensures { result ≡ lowest set }
 {
-    u32::trailing_zeros(set)
+    set.trailing_zeros()
 }
 
 // How many types the set has.
 pub fn size(set: u32) -> u32
     ensures { result ≡ size set }
 {
-    u32::count_ones(set)
+    set.count_ones()
 }
 
 // The types of a and those of b.
@@ -58,4 +60,36 @@ pub fn meet(a: u32, b: u32) -> u32
     ensures { result ≡ meet a b }
 {
     a & b
+}
+
+// The types of a set that are still to come, the lowest first.
+#[derive(Drop)]
+pub struct Members {
+    left: u32,
+}
+
+impl Members {
+    pub fn of(set: u32) -> Members
+        ensures { result.left ≡ set }
+    {
+        Members { left: set }
+    }
+}
+
+impl Iterator for Members {
+    type Item = u32;
+
+    ghost next_gives = { YieldsFirst (λ s. members s.left) };
+
+    ghost remaining = { item_count (λ s. members s.left) };
+
+    fn next(&mut self) -> Option<u32> {
+        let set = self.left;
+        if set == 0 {
+            return None;
+        }
+        let first = lowest(set);
+        self.left = without(set, first);
+        Some(first)
+    }
 }

@@ -1,7 +1,11 @@
 -- A list of types as the program holds it, `held`: its first `len` places are the list, and the others are 0. Assumes nothing.
 use mathlib.Core.Path.{◌≡◌, refl, sym, ap, ◌∙◌}
 use mathlib.Core.List.{List, ◌++◌}
-use Prim.Native.Nat.{ℕ, zero, suc, ◌-◌, ◌≤◌}
+use mathlib.Core.Logic.{⊎_elim}
+use native.Mathlib.Omega.{arith}
+use lib.Seq.{take_all}
+use Rattle.typeset.proofs.Laws.{split}
+use Prim.Native.Nat.{ℕ, zero, suc, ◌-◌, ◌≤◌, min, ◌<◌}
 use native.Mathlib.Nat.{zero-add, sub-zero, suc-sub-suc, zero-sub}
 use lib.ListN.{length, take, drop, replicate, length-replicate}
 use lib.Seq.{sets, length-sets, sets-eq, take_at}
@@ -10,7 +14,7 @@ use Rattle.zone.specs.declared.Zone.{Zone}
 use Rattle.zone.specs.Order.{zone_list, held}
 use Rattle.zone.proofs.Members.{zone-length}
 
-drop-replicate : (k n a : ℕ) → drop k (replicate n a) ≡ replicate (n - k) a
+pub drop-replicate : (k n a : ℕ) → drop k (replicate n a) ≡ replicate (n - k) a
 drop-replicate zero n a = ap (λ (m : ℕ). replicate m a) (sym (sub-zero n))
 drop-replicate (suc k) zero a = ap (λ (m : ℕ). replicate m a) (sym (zero-sub (suc k)))
 drop-replicate (suc k) (suc n) a = drop-replicate k n a ∙ ap (λ (m : ℕ). replicate m a) (sym (suc-sub-suc n k))
@@ -43,3 +47,17 @@ held_one k l e = sym (held-list k) ∙ ap (λ (z : Zone). take z.len z.types) e 
 -- a zone has at most 32 types
 pub zone-fits : (rows : List ℕ) (s : ℕ) → length (zone_list rows s) ≤ 32
 zone-fits rows s = rw (zone-length rows s) (size-le s)
+
+-- the first n of 32 places, with n cut at 32 first: the same
+pub cut : (n : ℕ) (l : List ℕ) → length l ≡ 32 → take (min n 32) l ≡ take n l
+cut n l long =
+    ⊎_elim
+    (λ (h : n < 32).
+    let e : min n 32 ≡ n = omega arith in
+    rw e)
+    (λ (h : 32 ≤ n).
+    let e : min n 32 ≡ 32 = omega arith in
+    let whole : length l ≤ 32 = omega arith in
+    let long-enough : length l ≤ n = omega arith in
+    rw (e, take_all 32 l whole, take_all n l long-enough))
+    (split n 32)

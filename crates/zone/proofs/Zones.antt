@@ -1,8 +1,9 @@
 -- The steps of `zone_list` (`Order.antt`), and of a loop that stores it. Assumes nothing.
-use mathlib.Core.Path.{◌≡◌}
+use mathlib.Core.Path.{◌≡◌, ap}
 use mathlib.Core.List.{List, [], ◌∷◌}
 use Prim.Native.Nat.{ℕ, suc, ◌+◌, ◌^◌, ◌<◌}
 use native.Mathlib.Numerals.{add-one}
+use native.Mathlib.Omega.{arith}
 use lib.ListN.{set}
 use lib.Seq.{sets}
 use Rattle.typeset.specs.Sets.{without, size}
@@ -10,9 +11,16 @@ use Rattle.typeset.proofs.Laws.{size-without, size-empty}
 use Rattle.zone.specs.Order.{next, zone_from, zone_list}
 use Rattle.zone.proofs.Rows.{next-has}
 
-pub zone-empty : (rows : List ℕ) → zone_list rows 0 ≡ []
+pub zone-none : (rows : List ℕ) (s : ℕ) → size s ≡ 0 → zone_list rows s ≡ []
 unfolding zone_list zone_from
-zone-empty rows = rw size-empty
+zone-none rows s e = rw e
+
+pub zone-empty : (rows : List ℕ) → zone_list rows 0 ≡ []
+zone-empty rows = zone-none rows 0 size-empty
+
+-- a set with a type in it is not the empty one
+pub some_type : {s : ℕ} → 0 < size s → ¬ (s ≡ 0)
+some_type {s} h e = absurd (omega (arith, ap size e, size-empty))
 
 -- the next type, and then the zone of what remains
 pub zone-step : (rows : List ℕ) {s : ℕ} → s < 2 ^ 32 → ¬ (s ≡ 0)

@@ -1,7 +1,7 @@
 -- The zone of a set of types under an order of 32 rows (manual 3.4, 3.5). The text of the manual makes zones from the choice of a region;
 -- what a subscriber subscribes to is meant. House choice: next comes the lowest-numbered remaining type that no remaining type precedes.
 -- Assumes nothing.
-use Rattle.std.specs.Prelude.{ℕ, zero, suc, ◌-◌, ◌&&◌, cond, List, [], ◌∷◌, ◌++◌, eqb, length, replicate}
+use Rattle.std.specs.Prelude.{ℕ, zero, suc, ◌-◌, ◌&&◌, cond, List, [], ◌∷◌, ◌++◌, eqb, length, take, replicate}
 use Rattle.typeset.specs.Sets.{has, some, set_of, without, lowest, size, minus}
 use Rattle.order.specs.Rules.{precedes}
 use Rattle.zone.specs.declared.Zone.{Zone}
@@ -30,3 +30,7 @@ zone_list rows s = zone_from (size s) rows s
 -- a list of types as the program holds it: then 0 in each place that is left of 32, and how many types there are
 unfoldable pub held : List ℕ → Zone
 held l = record { types = l ++ replicate (32 - length l) 0; len = length l }
+
+-- what such a row of places holds: the first len places
+unfoldable pub list_of : Zone → List ℕ
+list_of z = take z.len z.types

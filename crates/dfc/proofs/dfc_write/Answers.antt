@@ -1,11 +1,11 @@
 -- `dfc::dfc_write` meets its contract. Assumes nothing.
-use mathlib.Core.Path.{◌∙◌, ap}
-use Rattle.dfc.specs.Files.{written_said}
-use Rattle.dfc.proofs.Sights.{written_over, room-over}
+use Rattle.std.proofs.Common.{ap, ◌∙◌}
+use Rattle.planread.specs.Reading.{read_of}
+use Rattle.planback.specs.Back.{rewrites}
+use Rattle.dfc.specs.Files.{written_said, rewritten, room_rewritten}
+use Rattle.dfc.proofs.Sights.{room-over}
 use Rattle.dfc.proofs.dfc_write.Goals as goal
 
 pub returns : goal.returns
-returns c = (
-  c.written_said.ensures ∙ ap written_said c.rewrite.ensures.0 ∙ written_over c.args.file.now c.args.room.now,
-  c.rewrite.ensures.1 ∙ room-over c.args.file.now c.args.room.now,
-)
+unfolding rewritten room_rewritten rewrites
+returns c = (c.written_said.ensures ∙ ap written_said c.rewrite.ensures.0, c.rewrite.ensures.1 ∙ room-over (read_of c.args.file.now) c.args.room.now)

@@ -1,19 +1,14 @@
 -- `dfc_index::dfc_index_build` meets its contract. Assumes nothing.
-use mathlib.Core.Path.{refl, sym, ap, ◌∙◌}
-use Rattle.planread.specs.declared.Reading.{Reading}
-use Rattle.index.specs.declared.Indexed.{Indexed}
-use Rattle.index.specs.Index.{index_of}
-use Rattle.dfc_index.specs.Files.{indexed_said, file_built, index_built}
+use Rattle.std.proofs.Common.{◌≡◌, refl, sym, ap, ◌∙◌, rules}
+use Rattle.dfc_index.specs.Files.{file_built, index_built, indexed_said}
 use Rattle.dfc_index.proofs.dfc_index_build.Goals as goal
 
-pub returns-in-Refused : goal.returns-in-Refused
+pub returns-in-Err : goal.returns-in-Err
 unfolding file_built index_built
-returns-in-Refused c = let e = sym (ap (λ (x : Reading). x.answer) c.read-reading.ensures.0) ∙ c.in-Refused.is in
-    (rw e c.refused.ensures, rw e refl)
+returns-in-Err c = rw (sym c.read.ensures.0 ∙ c.in-Err.is) (c.refused.ensures, refl)
 
-pub returns-in-Sound : goal.returns-in-Sound
+pub returns-in-Ok : goal.returns-in-Ok
 unfolding file_built index_built
-returns-in-Sound c = let e = sym (ap (λ (x : Reading). x.answer) c.read-reading.ensures.0) ∙ c.in-Sound.is in (
-  rw e (c.said.ensures ∙ ap (λ (s : Indexed). indexed_said s 0) c.build_tested.ensures.0),
-  rw e (c.build_tested.ensures.1 ∙ ap (λ (x : Reading). index_of x.plan) c.read-reading.ensures.0),
-)
+returns-in-Ok c =
+    let out : c.answered.result ≡ indexed_said c.build_tested.result 0 = search rules in
+    rw (sym c.read.ensures.0 ∙ c.in-Ok.is) (out ∙ ap (λ s. indexed_said s 0) c.build_tested.ensures.0, c.build_tested.ensures.1)

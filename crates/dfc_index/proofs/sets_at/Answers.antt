@@ -1,21 +1,28 @@
 -- `dfc_index::sets_at` meets its contract. Assumes nothing.
-use mathlib.Core.Path.{◌≡◌, sym}
-use Prim.Native.Nat.{◌<◌}
-use native.Mathlib.Omega.{arith}
-use lib.ListN.{length}
+use Rattle.std.proofs.Common.{◌≡◌, ◌<◌, length, length-take, sym, arith}
+use Rattle.std.proofs.lemmas.List.{get_or-take}
+use Rattle.plan.specs.Parts.{nobody}
 use Rattle.dfc_index.proofs.Bytes.{sets_first, sets-next}
-use borrow.Author.Rules.{rules}
 use Rattle.dfc_index.proofs.sets_at.Goals as goal
 
-pub loop-j-init : goal.loop-j-init
-loop-j-init c = (search rules, sets_first c.args.subscribers, search rules)
+pub loop-s-init : goal.loop-s-init
+loop-s-init c = (sets_first c.args.subscribers.now, omega arith)
 
-pub loop-j-preserved : goal.loop-j-preserved
-loop-j-preserved c = let long : length c.args.subscribers ≡ 256 = search rules in
-    let low : c.loop-j.j < length c.args.subscribers = omega arith in
-    let one = sets-next c.args.subscribers c.loop-j.j low in
-    (omega arith, rw (c.loop-j.invariant.1, c.field_size-at.ensures.0) (sym one), omega arith)
+pub overflow_add-at : goal.overflow_add-at
+overflow_add-at c = omega (arith, length-take c.args.i c.args.subscribers.now)
+
+pub loop-s-preserved : goal.loop-s-preserved
+loop-s-preserved c =
+    let subs = c.args.subscribers.now in
+    let below : c.loop-s.s-index < c.args.i = omega (arith, length-take c.args.i subs, c.loop-s-test.true) in
+    let low : c.loop-s.s-index < length subs = omega (arith, c.told-subscribers) in
+    let one = sets-next subs c.loop-s.s-index low in
+    let item = get_or-take c.args.i subs c.loop-s.s-index nobody below in
+    let here = rw item at c.field_size-at.ensures.0 in
+    (rw (c.loop-s.invariant.0, here) (sym one), omega (arith, c.field_size-at.ensures.1, c.loop-s.invariant.1))
 
 pub returns : goal.returns
-returns c = let end : c.loop-j.j ≡ c.args.i = omega arith in
-    (rw end at c.loop-j.invariant.1, omega arith, search rules)
+returns c =
+    let subs = c.args.subscribers.now in
+    let end : c.loop-s.s-index ≡ c.args.i = omega (arith, length-take c.args.i subs, c.told-subscribers) in
+    (rw end at c.loop-s.invariant.0, omega arith)

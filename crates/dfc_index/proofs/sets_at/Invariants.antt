@@ -1,8 +1,7 @@
--- What the loops of `dfc_index::sets_at` keep. Assumes nothing.
-use mathlib.Core.Path.{◌≡◌}
-use Prim.Native.Nat.{◌+◌, ◌*◌, ◌≤◌}
+-- What the loop of `dfc_index::sets_at` keeps. Assumes nothing.
+use Rattle.std.proofs.Common.{◌≡◌, ◌+◌, ◌*◌, ◌≤◌}
 use Rattle.dfc_index.specs.Steps.{sets_at}
 use Rattle.dfc_index.proofs.sets_at.Given as goal
 
-abbrev pub invariant-loop-j : goal.invariant-loop-j
-invariant-loop-j l = (l.j ≤ l.i) × (l.at ≡ sets_at l.subscribers l.j) × (l.at ≤ 297 + 24 * l.j)
+abbrev pub invariant-loop-s : goal.invariant-loop-s
+invariant-loop-s l = (l.at ≡ sets_at l.subscribers l.s-index) × (l.at ≤ 297 + 24 * l.s-index)

@@ -1,9 +1,9 @@
 -- `dfc_store::dfc_data_delete` meets its contract. Assumes nothing.
-use Rattle.dfc_store.proofs.Told.{told-sound, rows-sound, told-refused, rows-refused}
+use Rattle.std.proofs.Common.{◌≡◌, sym, ap, ◌∙◌, rules}
+use Rattle.dfc_store.proofs.Told.{told_done, told-delete}
 use Rattle.dfc_store.proofs.dfc_data_delete.Goals as goal
 
-pub returns-in-Sound : goal.returns-in-Sound
-returns-in-Sound c = rw (← c.who_in-known.ensures) ((told-sound _ _ _ _ _ c.in-Sound.is (c.delete.ensures.0) c.data_said.ensures, rows-sound _ _ _ _ c.in-Sound.is (c.delete.ensures.1)))
-
-pub returns-in-Refused : goal.returns-in-Refused
-returns-in-Refused c = rw (← c.who_in-known.ensures) ((told-refused _ _ _ _ c.in-Refused.is c.refused.ensures, rows-refused _ _ _ _ c.in-Refused.is))
+pub returns-in-Ok : goal.returns-in-Ok
+returns-in-Ok c =
+    let out : c.answered.result ≡ told_done c.delete.result = search rules in
+    rw (sym c.who_in.ensures ∙ c.in-Ok.is) (out ∙ ap told_done c.delete.ensures.0 ∙ told-delete _ _ _ _ _, c.delete.ensures.1)

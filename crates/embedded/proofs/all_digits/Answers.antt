@@ -1,25 +1,11 @@
 -- `embedded::all_digits` meets its contract. Assumes nothing.
-use mathlib.Core.Path.{◌≡◌, sym}
-use Rattle.typeset.proofs.Bools.{passed, failed}
-use Rattle.typeset.proofs.Below.{every-none, every_more, every-no}
-use lib.ListN.{length}
-use Rattle.embedded.specs.Embedded.{all_digits}
-use native.Mathlib.Omega.{arith}
-use borrow.Author.Rules.{rules}
+use Rattle.std.proofs.Common.{rules, tests, ◌∙◌}
+use Rattle.std.proofs.lemmas.Iterator.{YieldsList-from_slice}
+use Rattle.std.proofs.lemmas.Iterator.Search.{all_from_yields_List}
+use Rattle.typeset.proofs.Listed.{items-all}
+use Rattle.embedded.specs.Embedded.{digit, all_digits}
 use Rattle.embedded.proofs.all_digits.Goals as goal
-
-pub loop-i-init : goal.loop-i-init
-loop-i-init c = (search rules, every-none _)
-
-pub returns-then-not-digit : goal.returns-then-not-digit
-unfolding all_digits
-returns-then-not-digit c = sym (every-no _ _ _ c.loop-i-test.true (failed c.digit.ensures c.if-not-digit.true-raw))
-
-pub loop-i-preserved : goal.loop-i-preserved
-loop-i-preserved c = (search rules, every_more _ _ c.loop-i.invariant.1 (passed c.digit.ensures c.if-not-digit.false-raw))
 
 pub returns : goal.returns
 unfolding all_digits
-returns c =
-    let end : c.loop-i.i ≡ length c.args.s.now = omega arith in
-    sym (rw end at c.loop-i.invariant.1)
+returns c = all_from_yields_List digit _ _ _ c.all.ensures.ran (YieldsList-from_slice _ c.iter.ensures.rest) (λ x b q k. search (rules, tests)) ∙ items-all digit c.args.s.now 0

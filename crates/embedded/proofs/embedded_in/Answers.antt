@@ -10,15 +10,15 @@ use Rattle.embedded.proofs.Digits.{code_inside, part-from}
 use Rattle.embedded.proofs.embedded_in.Goals as goal
 
 pub slice_bounds-written-count : goal.slice_bounds-written-count
-slice_bounds-written-count c = rw c.skipped-from.ensures (code_inside c.args.s.now)
+slice_bounds-written-count c = rw c.skipped.ensures (code_inside c.args.s.now)
 
 pub slice_bounds-written-start : goal.slice_bounds-written-start
 slice_bounds-written-start c =
-    let inside : c.skipped-from.result ≤ length c.args.s.now = rw c.skipped-from.ensures (code_inside c.args.s.now) in
+    let inside : c.skipped.result ≤ length c.args.s.now = rw c.skipped.ensures (code_inside c.args.s.now) in
     omega arith
 
 pub returns : goal.returns
 unfolding embedded after_code
 returns c =
-    rw (← c.skipped-from.ensures)
-    (c.written.ensures ∙ ap (λ (l : List ℕ). dialled (writes_address l) (number_from 0 l)) (part-from c.skipped-from.result c.args.s.now))
+    rw (← c.skipped.ensures)
+    (c.written.ensures ∙ ap (λ (l : List ℕ). dialled (writes_address l) (number_from 0 l)) (part-from c.skipped.result c.args.s.now))

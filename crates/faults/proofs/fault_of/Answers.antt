@@ -3,7 +3,8 @@ use mathlib.Core.Path.{◌≡◌, ap, ◌∙◌}
 use mathlib.Core.List.{List}
 use Prim.Native.Nat.{ℕ}
 use Rattle.zone.specs.Answer.{zone_at}
-use Rattle.setup.specs.Setups.{routing_address, list_of, fault_in, fault, zone_asked}
+use Rattle.zone.specs.Order.{list_of}
+use Rattle.setup.specs.Setups.{routing_address, fault_in, fault, zone_asked}
 use Rattle.setup.proofs.Faults.{asked-enough}
 use Rattle.zone.proofs.Held.{held-list}
 use Rattle.faults.proofs.fault_of.Goals as goal

@@ -1,15 +1,12 @@
 -- `index::build_tested` meets its contract. Assumes nothing.
-use mathlib.Core.Path.{◌≡◌, refl, ◌∙◌}
-use mathlib.Core.Bool.{true, false}
+use mathlib.Core.Path.{refl, ◌∙◌}
 use Rattle.plan.specs.Find.{used}
 use Rattle.index.proofs.Built.{index_is}
 use Rattle.index.proofs.build_tested.Goals as goal
 
-pub returns-then-not-kept : goal.returns-then-not-kept
-returns-then-not-kept c = let no : c.args.kept ≡ false = c.if-not-kept.true in
-    rw no (refl, refl)
-
-pub returns : goal.returns
+pub returns-then-kept : goal.returns-then-kept
 unfolding used
-returns c = let yes : c.args.kept ≡ true = c.if-not-kept.false in
-    rw yes (refl, c.fill.ensures ∙ rw c.used-count.ensures.0 (index_is _))
+returns-then-kept c = rw c.if-kept.true (refl, rw (c.used-count.ensures.0, c.into.ensures) at c.fill.ensures ∙ index_is _)
+
+pub returns-else-kept : goal.returns-else-kept
+returns-else-kept c = rw c.if-kept.false (refl, refl)

@@ -1,39 +1,29 @@
 -- `index::enter` meets its contract. Assumes nothing.
-use mathlib.Core.Path.{◌≡◌, refl, sym, ◌∙◌}
-use Prim.Native.Nat.{◌<◌}
-use native.Mathlib.Omega.{arith}
-use Rattle.index.proofs.Lowest.{next-set}
-use Rattle.typeset.proofs.Taken.{taken-below, taken-less}
-use Rattle.index.specs.Steps.{with_one_more}
+use Rattle.std.proofs.Common.{◌≡◌, ◌<◌, sym, ap, ◌∙◌, rules, arith}
+use Rattle.typeset.proofs.Taken.{taken-below}
+use Rattle.index.specs.Steps.{upon, with_one_more}
+use Rattle.typeset.proofs.InTurn.{left_of, left-lt, left-all, none-left, some-left, lowest-left, others-left}
 use Rattle.index.proofs.Rows.{upon-next, upon-none}
-use borrow.Author.Rules.{rules}
 use Rattle.index.proofs.enter.Goals as goal
 
-pub loop-left-init : goal.loop-left-init
-loop-left-init c = (search rules, refl)
-
-pub overflow_add-first : goal.overflow_add-first
-overflow_add-first c = let low : c.lowest-t.result < 32 = taken-below c.loop-left.invariant.0 c.loop-left-test.true c.lowest-t.ensures in
-    omega arith
-
-pub offset_bounds-index-first : goal.offset_bounds-index-first
-offset_bounds-index-first c = let low : c.lowest-t.result < 32 = taken-below c.loop-left.invariant.0 c.loop-left-test.true c.lowest-t.ensures in
-    omega arith
+pub loop-t-init : goal.loop-t-init
+loop-t-init c =
+    let all : c.into_iter-t-iterator.result.left ≡ c.args.types = search rules in
+    ap (λ s. upon c.args.first s (λ k. with_one_more c.args.address) c.args.index.now) (ap left_of all ∙ left-all c.ranges.types.fits)
 
 pub bounds-index-first : goal.bounds-index-first
-bounds-index-first c = let low : c.lowest-t.result < 32 = taken-below c.loop-left.invariant.0 c.loop-left-test.true c.lowest-t.ensures in
+bounds-index-first c =
+    let e = c.in-Some.ensures.steps in
+    let low : c.in-Some.t < 32 = taken-below (left-lt _) (some-left _ _ _ e) (lowest-left _ _ _ e) in
     omega arith
 
-pub loop-left-smaller : goal.loop-left-smaller
-loop-left-smaller c = taken-less c.loop-left.invariant.0 c.loop-left-test.true c.lowest-t.ensures (c.meet-left.ensures ∙ next-set c.loop-left.invariant.0 c.loop-left-test.true c.lowest-t.ensures)
-
-pub loop-left-preserved : goal.loop-left-preserved
-loop-left-preserved c = (
-  search rules,
-  rw (c.meet-left.ensures ∙ next-set c.loop-left.invariant.0 c.loop-left-test.true c.lowest-t.ensures, c.add.ensures)
-      (sym (upon-next c.loop-left.invariant.0 c.loop-left-test.true c.lowest-t.ensures c.args.first (λ k. with_one_more c.args.address) c.loop-left.index) ∙ c.loop-left.invariant.1),
-)
+pub loop-t-preserved : goal.loop-t-preserved
+loop-t-preserved c =
+    let e = c.in-Some.ensures.steps in
+    rw (others-left _ _ _ e, c.add.ensures)
+    (sym (upon-next (left-lt _) (some-left _ _ _ e) (lowest-left _ _ _ e) c.args.first (λ k. with_one_more c.args.address) c.loop-t.index) ∙ c.loop-t.invariant)
 
 pub returns : goal.returns
-returns c = let done : c.loop-left.left ≡ 0 = c.loop-left-test.false in
-    sym (upon-none _ _ _) ∙ (rw done at c.loop-left.invariant.1)
+returns c =
+    let none = none-left _ c.in-None.ensures.steps.0 in
+    sym (upon-none _ _ _) ∙ (rw none at c.loop-t.invariant)

@@ -1,12 +1,8 @@
 -- `index::enter` meets its contract. The loop looks forward: what the types that are left will do to the index gives the whole. Assumes nothing.
-use mathlib.Core.Path.{◌≡◌}
-use Prim.Native.Nat.{◌^◌, ◌<◌}
-use Rattle.typeset.specs.Sets.{size}
+use Rattle.std.proofs.Common.{◌≡◌}
 use Rattle.index.specs.Steps.{upon, with_one_more}
+use Rattle.typeset.proofs.InTurn.{left_of}
 use Rattle.index.proofs.enter.Given as goal
 
-abbrev pub invariant-loop-left : goal.invariant-loop-left
-invariant-loop-left l = (l.left < 2 ^ 32) × (upon l.first l.left (λ k. with_one_more l.address) l.index ≡ upon l.first l.types (λ k. with_one_more l.address) l.initial.index)
-
-abbrev pub decreases-loop-left : goal.decreases-loop-left
-decreases-loop-left l = size l.left
+abbrev pub invariant-loop-t : goal.invariant-loop-t
+invariant-loop-t l = upon l.first (left_of l.t-iterator.left) (λ k. with_one_more l.address) l.index ≡ upon l.first l.types (λ k. with_one_more l.address) l.initial.index

@@ -1,9 +1,6 @@
--- `index::shaped` meets its contract. Assumes nothing.
-use mathlib.Core.Path.{◌≡◌}
-use mathlib.Core.List.{[]}
-use Prim.Native.Nat.{ℕ, ◌≤◌, ◌<◌}
-use lib.ListN.{length, get_or}
+-- `index::shaped` meets its contract. The loop's invariant: each row passed has its places. Assumes nothing.
+use Rattle.std.proofs.Common.{◌≡◌, ℕ, ◌<◌, [], length, get_or}
 use Rattle.index.proofs.shaped.Given as goal
 
-abbrev pub invariant-loop-k : goal.invariant-loop-k
-invariant-loop-k l = (l.k ≤ 64) × ((j : ℕ) → j < l.k → length (get_or l.rows j []) ≡ 257)
+abbrev pub invariant-loop-row : goal.invariant-loop-row
+invariant-loop-row l = (j : ℕ) → j < l.row-index → length (get_or l.rows j []) ≡ 257

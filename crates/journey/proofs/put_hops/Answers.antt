@@ -12,16 +12,10 @@ use Rattle.journey.proofs.Trips.{todo, hop-text, hop-fine, hop-place, text-short
 use Rattle.journey.proofs.put_hops.Goals as goal
 
 pub loop-hop-init : goal.loop-hop-init
-loop-hop-init c = record { from = omega arith; to = omega arith; low = omega (arith, c.requires.2); fine = λ _. c.requires.1; same_length = refl; place = refl; stored = refl }
+loop-hop-init c = record { from = omega arith; to = omega arith; low = omega (arith, c.requires.2); fine = c.requires.1; same_length = refl; place = refl; stored = refl }
 
 pub one_hop-trip-requires : goal.one_hop-trip-requires
 one_hop-trip-requires c = omega (arith, c.loop-hop.invariant.low, c.loop-hop-test.true)
-
-pub overflow_add-hop : goal.overflow_add-hop
-overflow_add-hop c = omega (arith, c.loop-hop-test.true)
-
-pub loop-hop-smaller : goal.loop-hop-smaller
-loop-hop-smaller c = omega (arith, c.loop-hop-test.true)
 
 pub loop-hop-preserved : goal.loop-hop-preserved
 loop-hop-preserved c =

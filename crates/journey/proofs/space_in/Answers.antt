@@ -1,33 +1,23 @@
 -- `journey::space_in` meets its contract. Assumes nothing.
-use mathlib.Core.Path.{◌≡◌, sym, ◌∙◌}
-use native.Mathlib.Omega.{arith}
-use lib.Dec.{eqb}
-use lib.ListN.{length, get_or}
-use borrow.Author.Count.{below_none, below_more}
-use borrow.Author.Tests.{eq-eqb, ne_eqb}
+use Rattle.std.proofs.Common.{rules, tests, arith, Option, Some, None, ◌≡◌, true, false, eqb, sym, ◌∙◌, ℕ, List, get_or}
+use Rattle.std.proofs.lemmas.Iterator.{IsFirst-from_position, YieldsList-from_slice}
+use Rattle.std.specs.Prelude.{MatchOption, HoldsAt, length, ◌<◌}
+use Rattle.std.specs.List.{AllWithin}
+use Rattle.std.specs.Option.{unwrap_or}
 use Rattle.typeset.proofs.Below.{least-found, least-none}
 use Rattle.journey.specs.Desk.{space_in}
 use Rattle.journey.proofs.space_in.Goals as goal
 
-pub loop-i-init : goal.loop-i-init
-loop-i-init c = (omega arith, below_none _)
-
-pub bounds-line-i : goal.bounds-line-i
-bounds-line-i c = c.loop-i-test.true
-
-pub returns-then-line-i-eq32 : goal.returns-then-line-i-eq32
-unfolding space_in
-returns-then-line-i-eq32 c = sym (least-found _ _ _ c.loop-i.invariant.1 c.loop-i-test.true (eq-eqb _ _ c.if-line-i-eq32.true))
-
-pub loop-i-smaller : goal.loop-i-smaller
-loop-i-smaller c = omega (arith, c.loop-i-test.true)
-
-pub loop-i-preserved : goal.loop-i-preserved
-loop-i-preserved c = (omega (arith, c.loop-i-test.true), below_more _ _ c.loop-i.invariant.1 (ne_eqb _ _ c.if-line-i-eq32.false))
+module _ (l : List ℕ) where
+  said : (r : Option ℕ) → MatchOption r (AllWithin (λ u. eqb u 32 ≡ false) l 0 (length l))
+      (λ i. (i < length l) × HoldsAt (λ u. eqb u 32 ≡ true) l i × AllWithin (λ u. eqb u 32 ≡ false) l 0 i)
+      → unwrap_or r (length l) ≡ space_in l
+  unfolding space_in
+  said None none = sym (least-none (length l) (λ k. eqb (get_or l k 0) 32) (λ k h. none k 0 (omega arith) h))
+  said (Some i) (h, here, none) = sym (least-found (length l) (λ k. eqb (get_or l k 0) 32) i (λ k h. none k 0 (omega arith) h) h (here 0))
 
 pub returns : goal.returns
-unfolding space_in
 returns c =
-    let i = c.loop-i.invariant in
-    let end : c.loop-i.i ≡ length c.args.line.now = omega (arith, i.0, c.loop-i-test.false) in
-    end ∙ sym (least-none (length c.args.line.now) (λ k. eqb (get_or c.args.line.now k 0) 32) (λ k l. i.1 k (omega (arith, end, l))))
+    c.unwrap_or.ensures ∙ said c.args.line.now _
+    (IsFirst-from_position _ _ _ (λ u. eqb u 32 ≡ true) (λ u. eqb u 32 ≡ false) c.position.ensures.ran (YieldsList-from_slice _ c.iter.ensures.rest)
+    (λ x q k. search (rules, tests)) (λ x q k. search (rules, tests)))

@@ -1,30 +1,50 @@
 -- `links::drop` meets its contract. Assumes nothing.
-use mathlib.Core.Path.{ap, ◌∙◌}
-use native.Mathlib.Omega.{arith}
-use lib.ListN.{length}
-use lib.Seq.{length-sets}
-use Rattle.typeset.proofs.Bools.{passed, failed}
-use borrow.Author.Rules.{rules}
-use Rattle.links.specs.Steps.{remaining}
+use Rattle.std.proofs.Common.{◌≡◌, ◌≤◌, Err, ◌+◌, ◌-◌, ℕ, List, drop, take, append_assoc, length, sym, ap, ◌∙◌, rules, arith}
+use lib.Seq.{sets, sets-eq, drop-drop}
+use lib.ListN.{replicate, length-replicate}
+use borrow.Rule.Slice.PartMut.{put_mid, post_of}
+use Rattle.links.specs.Sets.{formed}
 use Rattle.links.proofs.Memory.{links-few}
-use Rattle.links.proofs.Laws.{drop-no-set, drop-done}
-use borrow.Author.Rules.{rules}
+use Rattle.links.proofs.Laws.{remaining-few, looked, looked_none, drop-no-set, drop-done}
 use Rattle.links.proofs.drop.Goals as goal
 
-pub places-requires : goal.places-requires
-places-requires c = search rules
-
-pub look-seen-requires : goal.look-seen-requires
-look-seen-requires c = search rules
-
-pub returns-then-not-seen : goal.returns-then-not-seen
-returns-then-not-seen c = drop-no-set _ _ (failed c.look-seen.ensures.0 c.if-not-seen.true)
+pub returns-in_err-count : goal.returns-in_err-count
+returns-in_err-count c =
+    let none = looked_none (formed c.args.set.now) _ _ (c.in_err-count.ensures) in
+    let out : c.from_residual.result ≡ Err c.in_err-count.field-0.0 = search rules in
+    rw (out, none.1) (drop-no-set _ _ none.0)
 
 pub to_front-n-requires : goal.to_front-n-requires
-to_front-n-requires c = (c.places.ensures, (passed c.look-seen.ensures.0 c.if-not-seen.false), c.look-seen.ensures.1 (passed c.look-seen.ensures.0 c.if-not-seen.false))
+to_front-n-requires c = looked _ _ _ (c.in_ok-count.ensures)
 
-pub clear-requires : goal.clear-requires
-clear-requires c = (ap length c.to_front-n.ensures.2 ∙ length-sets c.args.set.now 0 (remaining c.args.port c.args.set.now) ∙ c.places.ensures, omega (arith, c.look-seen.ensures.1 (passed c.look-seen.ensures.0 c.if-not-seen.false), links-few c.args.set.now c.places.ensures))
+-- zeros put into the k places from n on
+put-zeros : (xs : List ℕ) (n k : ℕ) → n + k ≤ length xs → put_mid n k xs (replicate k 0) ≡ sets xs n (replicate k 0)
+put-zeros xs n k h =
+    let many : length (replicate {A = ℕ} k 0) ≡ k = length-replicate {A = ℕ} k 0 in
+    let rest : post_of n k xs ≡ drop (n + length (replicate {A = ℕ} k 0)) xs = drop-drop k n xs ∙ ap (λ j. drop j xs) (omega (arith, many)) in
+    rw rest (sym (sets-eq (replicate k 0) xs n (rw many h) ∙ append_assoc (take n xs) (replicate k 0) _))
+
+pub slice_bounds-fill-count : goal.slice_bounds-fill-count
+slice_bounds-fill-count c =
+    let seen = looked _ _ _ (c.in_ok-count.ensures) in
+    omega (arith, c.to_front-n.ensures.0, seen.1, remaining-few c.args.port c.args.set.now)
+
+pub slice_bounds-fill-start : goal.slice_bounds-fill-start
+slice_bounds-fill-start c =
+    let seen = looked _ _ _ (c.in_ok-count.ensures) in
+    omega (arith, c.to_front-n.ensures.0, seen.1, remaining-few c.args.port c.args.set.now)
+
+pub slice_bounds-fill-end : goal.slice_bounds-fill-end
+slice_bounds-fill-end c =
+    let seen = looked _ _ _ (c.in_ok-count.ensures) in
+    omega (arith, c.told-set, seen.1, links-few c.args.set.now c.told-set)
 
 pub returns : goal.returns
-returns c = rw (c.clear.ensures, c.to_front-n.ensures.2, c.to_front-n.ensures.0, c.look-seen.ensures.1 (passed c.look-seen.ensures.0 c.if-not-seen.false)) (drop-done _ _ c.places.ensures (passed c.look-seen.ensures.0 c.if-not-seen.false))
+returns c =
+    let m = c.args.set.now in
+    let n = c.to_front-n.result in
+    let k = c.in_ok-count.count - n in
+    let seen = looked (formed m) _ _ (c.in_ok-count.ensures) in
+    let fits : n + k ≤ length c.to_front-n.new.set = omega (arith, c.to_front-n.array_long, c.to_front-n.ensures.0, seen.1, remaining-few c.args.port m, links-few m c.told-set) in
+    let zeros : c.fill.new.self ≡ replicate k 0 = search rules in
+    rw (zeros, put-zeros c.to_front-n.new.set n k fits, c.to_front-n.ensures.2, c.to_front-n.ensures.0, seen.1) (drop-done _ m c.told-set seen.0)

@@ -15,34 +15,13 @@ use Rattle.links.proofs.to_front.Goals as goal
 use Rattle.links.proofs.to_front.Goals.{then-stays, else-stays}
 
 pub loop-i-init : goal.loop-i-init
-loop-i-init c = (search rules, search rules, refl, omega arith, refl, omega (arith, c.requires.2, links-few c.args.set.now c.requires.0))
-
-pub offset_bounds-set-i : goal.offset_bounds-set-i
-offset_bounds-set-i c = omega arith
-
-pub bounds-set-i : goal.bounds-set-i
-bounds-set-i c = omega (arith, c.loop-i.invariant.5)
+loop-i-init c = (search rules, search rules, refl, omega arith, refl, omega (arith, c.requires.1, links-few c.args.set.now c.told-set))
 
 pub stays-requires : goal.stays-requires
 stays-requires c =
     let i = c.loop-i.i in
-    let low : i < length (links c.args.set.now) = omega (arith, c.requires.2) in
-    positive (λ z. link_at c.args.set.now c.requires.0 c.requires.1 i low (sym (same_read c.loop-i.set c.args.set.now i c.loop-i.invariant.4) ∙ z))
-
-pub offset_bounds-set-n : goal.offset_bounds-set-n
-offset_bounds-set-n c = omega arith
-
-pub bounds-set-n : goal.bounds-set-n
-bounds-set-n c = omega (arith, c.loop-i.invariant.1, c.loop-i.invariant.5)
-
-pub overflow_add-n : goal.overflow_add-n
-overflow_add-n c = omega (arith, c.loop-i.invariant.1, c.loop-i.invariant.5)
-
-pub overflow_step-i : goal.overflow_step-i
-overflow_step-i c = omega (arith, c.loop-i.invariant.5)
-
-pub loop-i-smaller : goal.loop-i-smaller
-loop-i-smaller c = search rules
+    let low : i < length (links c.args.set.now) = omega (arith, c.requires.1) in
+    positive (λ z. link_at c.args.set.now c.told-set c.requires.0 i low (sym (same_read c.loop-i.set c.args.set.now i c.loop-i.invariant.4) ∙ z))
 
 pub loop-i-preserved : goal.loop-i-preserved
 loop-i-preserved c =
@@ -51,7 +30,7 @@ loop-i-preserved c =
     let i = c.loop-i.i in
     let n = c.loop-i.n in
     let v = c.loop-i.invariant in
-    let below : i < length m = omega (arith, c.requires.0, v.5) in
+    let below : i < length m = omega (arith, c.told-set, v.5) in
     let test = stays c.args.port in
     let read : test (get_or m i 0) ≡ test (get_or s i 0) = ap test (sym (same_read s m i v.4)) in
     elim c.if-stays.branch [
@@ -71,6 +50,6 @@ returns c =
     let m = c.args.set.now in
     let i = c.loop-i.i in
     let v = c.loop-i.invariant in
-    let past : length (links m) ≤ i = omega (arith, c.requires.2) in
-    let none = blank-keeps (stays c.args.port) refl (drop i m) (blank-after m c.requires.0 c.requires.1 i past) in
+    let past : length (links m) ≤ i = omega (arith, c.requires.1) in
+    let none = blank-keeps (stays c.args.port) refl (drop i m) (blank-after m c.told-set c.requires.0 i past) in
     (omega (arith, v.3, ap length none), omega (arith, v.0, v.1, v.5), rw none at v.2)

@@ -1,4 +1,4 @@
--- `making::new_outcome` meets its contract: one expression, as the definition has it. Assumes nothing.
+-- `making::new_outcome` meets its contract. Assumes nothing.
 use Rattle.making.specs.Making.{new_outcome_by}
 use Rattle.making.proofs.new_outcome.Goals as goal
 
@@ -6,12 +6,7 @@ pub returns : goal.returns
 unfolding new_outcome_by
 returns c p e h =
     rw (
-      c.unless-6.ensures,
-      c.unless-5.ensures,
-      c.unless-4.ensures,
-      c.unless-3.ensures,
-      c.unless-2.ensures,
-      c.unless.ensures,
+      c.first_unmet.ensures,
       c.type_exists.ensures p e,
       c.makes_new.ensures,
       c.address_held.ensures p h,

@@ -1,23 +1,14 @@
 -- `order::order_sound` meets its contract. Assumes nothing.
-use mathlib.Core.Path.{◌≡◌, sym, ◌∙◌}
-use native.Mathlib.Omega.{arith}
-use borrow.Author.Rules.{rules}
-use borrow.Author.Tests.{not-true, not-false}
-use Rattle.typeset.proofs.Below.{every-none, every_more, every-no}
+use Rattle.std.proofs.Common.{rules, tests, refl, ◌∙◌}
+use Rattle.std.proofs.lemmas.Iterator.Search.{all_from_yields_List}
+use Rattle.std.proofs.lemmas.Iterator.{YieldsList-from_range}
+use Rattle.typeset.proofs.Listed.{numbers-all}
+use Rattle.order.specs.Steps.{row_sound}
 use Rattle.order.proofs.Orders.{order-rows}
 use Rattle.order.proofs.order_sound.Goals as goal
 
-pub loop-t-init : goal.loop-t-init
-loop-t-init c = (search rules, every-none _)
-
-pub returns-then-not-row_sound : goal.returns-then-not-row_sound
-returns-then-not-row_sound c =
-    sym (sym (order-rows _ _) ∙ every-no 32 _ _ c.loop-t-test.true (sym c.row_sound.ensures ∙ not-true _ c.if-not-row_sound.true-raw))
-
-pub loop-t-preserved : goal.loop-t-preserved
-loop-t-preserved c = (search rules, every_more _ _ c.loop-t.invariant.1 (sym c.row_sound.ensures ∙ not-false _ c.if-not-row_sound.false-raw))
-
 pub returns : goal.returns
 returns c =
-    let end : c.loop-t.t ≡ 32 = omega arith in
-    sym (sym (order-rows _ _) ∙ rw end at c.loop-t.invariant.1)
+    let test = row_sound c.args.chosen c.args.rows.now in
+    all_from_yields_List test _ _ _ c.all.ensures.ran (YieldsList-from_range 0 32 32 refl refl) (λ x b q k. search (rules, tests))
+    ∙ numbers-all 32 test ∙ order-rows c.args.chosen c.args.rows.now

@@ -1,31 +1,8 @@
 -- `order::reversible_ordered` meets its contract. Assumes nothing.
-use mathlib.Core.Path.{sym}
-use borrow.Author.Rules.{rules}
-use Rattle.typeset.proofs.Bools.{passed, failed}
-use Rattle.typeset.proofs.Taken.{asks_set, asks-fails, asks_rest, asks_none, taken-below, taken-less}
-use Rattle.order.specs.Rules.{reversible_ordered}
-use Rattle.order.specs.Steps.{pair_ordered, ordered_at}
-use Rattle.order.proofs.Skips.{ordered-none}
+use Rattle.std.proofs.Common.{rules, tests, ◌||◌}
+use Rattle.order.specs.Rules.{precedes, reversible_ordered}
 use Rattle.order.proofs.reversible_ordered.Goals as goal
 
-pub loop-left-init : goal.loop-left-init
-loop-left-init c = asks_set _ (search rules) (ordered-none _ _)
-
-pub ordered_at-requires : goal.ordered_at-requires
-ordered_at-requires c = taken-below c.loop-left.invariant.0 c.loop-left-test.true c.lowest-a.ensures
-
-pub returns-then-not-ordered_at : goal.returns-then-not-ordered_at
-unfolding reversible_ordered ordered_at pair_ordered
-returns-then-not-ordered_at c =
-    sym (asks-fails _ c.loop-left.invariant c.loop-left-test.true c.lowest-a.ensures (failed c.ordered_at.ensures c.if-not-ordered_at.true-raw))
-
-pub loop-left-smaller : goal.loop-left-smaller
-loop-left-smaller c = taken-less c.loop-left.invariant.0 c.loop-left-test.true c.lowest-a.ensures c.without-left.ensures
-
-pub loop-left-preserved : goal.loop-left-preserved
-loop-left-preserved c =
-    asks_rest _ c.loop-left.invariant c.loop-left-test.true c.lowest-a.ensures (passed c.ordered_at.ensures c.if-not-ordered_at.false-raw) c.without-left.ensures
-
 pub returns : goal.returns
-unfolding reversible_ordered ordered_at pair_ordered
-returns c = sym (asks_none _ c.loop-left.invariant c.loop-left-test.false)
+unfolding reversible_ordered
+returns c = let source = c.args.source.now in c.any_two.ensures (λ a b. precedes source a b || precedes source b a) (λ a b r k. search (rules, tests))

@@ -1,12 +1,11 @@
 -- `plan::given` meets its contract. Assumes nothing.
-use Rattle.typeset.proofs.Bools.{passed, failed}
 use Rattle.plan.specs.Parts.{given}
 use Rattle.plan.proofs.given.Goals as goal
 
-pub returns-then-not-legal : goal.returns-then-not-legal
+pub returns-then-legal : goal.returns-then-legal
 unfolding given
-returns-then-not-legal c = rw (failed c.legal.ensures c.if-not-legal.true-raw)
+returns-then-legal c = rw (← c.legal.ensures, c.if-legal.true)
 
-pub returns : goal.returns
+pub returns-else-legal : goal.returns-else-legal
 unfolding given
-returns c = rw (passed c.legal.ensures c.if-not-legal.false-raw)
+returns-else-legal c = rw (← c.legal.ensures, c.if-legal.false)

@@ -1,20 +1,19 @@
 -- `plan::holder` meets its contract. Assumes nothing.
-use mathlib.Core.Path.{refl, sym, ◌∙◌}
-use native.Mathlib.Omega.{arith}
-use Rattle.plan.specs.Find.{holder_at}
+use Rattle.std.proofs.Common.{sym, ◌∙◌, arith}
 use Rattle.plan.proofs.Lookup.{found_below}
+use Rattle.plan.specs.Find.{holder_at}
 use Rattle.plan.proofs.holder.Goals as goal
 
-pub returns-in_default : goal.returns-in_default
+pub offset_bounds-plan-i : goal.offset_bounds-plan-i
+offset_bounds-plan-i c = omega (arith, found_below _ _ _ (sym c.find.ensures ∙ c.in-Some.is))
+
+pub bounds-plan-i : goal.bounds-plan-i
+bounds-plan-i c = found_below _ _ _ (sym c.find.ensures ∙ c.in-Some.is)
+
+pub returns-in-Some : goal.returns-in-Some
 unfolding holder_at
-returns-in_default c = rw (sym c.find.ensures ∙ c.in_default.is) c.no_subscriber.ensures
+returns-in-Some c = rw (sym c.find.ensures ∙ c.in-Some.is)
 
-pub offset_bounds-subscribers-i : goal.offset_bounds-subscribers-i
-offset_bounds-subscribers-i c = omega (arith, found_below _ _ _ (sym c.find.ensures ∙ c.in-At.is))
-
-pub bounds-subscribers-i : goal.bounds-subscribers-i
-bounds-subscribers-i c = found_below _ _ _ (sym c.find.ensures ∙ c.in-At.is)
-
-pub returns : goal.returns
+pub returns-in-None : goal.returns-in-None
 unfolding holder_at
-returns c = rw (sym c.find.ensures ∙ c.in-At.is) refl
+returns-in-None c = rw (sym c.find.ensures ∙ c.in-None.is) c.no_subscriber.ensures

@@ -5,4 +5,4 @@ use Rattle.plan.proofs.look.Goals as goal
 
 pub returns : goal.returns
 unfolding seen
-returns c = rw (c.holder-one.ensures, c.holder-other.ensures) refl
+returns c = rw (c.holder.ensures, c.holder-2.ensures) refl

@@ -1,11 +1,7 @@
--- `planback::read` meets its contract: what the reader accepts is sound. Assumes nothing.
-use mathlib.Core.Path.{sym, ◌∙◌}
-use Rattle.planfile.proofs.Theorems.{read-sound}
-use Rattle.planback.proofs.Again.{as-accepted}
+-- `planback::read` meets its contract. Assumes nothing.
+use Rattle.planback.proofs.Ranges.{below-each}
+use Rattle.planback.proofs.Again.{accepted-sound}
 use Rattle.planback.proofs.read.Goals as goal
 
 pub returns : goal.returns
-returns c = (
-  c.read.ensures.value,
-  λ e. read-sound c.args.file.now c.all_bytes.ensures c.read.result.plan (sym c.read.ensures.value ∙ as-accepted c.read.result e),
-)
+returns c = (c.read.ensures.value, accepted-sound c.args.file.now (below-each 256 c.args.file.now (λ i. (c.type_inv.file i).fits)) c.read.result c.read.ensures.value)

@@ -1,16 +1,8 @@
--- `planback::scan` meets its contract: what is accepted is sound. Assumes nothing.
-use mathlib.Core.Path.{sym, ap, ◌∙◌}
-use Rattle.planread.specs.declared.Sight.{Sight}
-use Rattle.planread.specs.Reading.{read_of}
-use Rattle.planread.specs.Scanning.{scanned}
-use Rattle.planfile.proofs.Theorems.{read-sound}
-use Rattle.planback.proofs.Again.{as-accepted}
+-- `planback::scan` meets its contract. Assumes nothing.
+use Rattle.std.proofs.Common.{refl}
+use Rattle.planback.proofs.Ranges.{below-each}
+use Rattle.planback.proofs.Again.{accepted-sound}
 use Rattle.planback.proofs.scan.Goals as goal
 
 pub returns : goal.returns
-unfolding scanned
-returns c = (
-  c.scan.ensures,
-  λ e. read-sound c.args.file.now c.all_bytes.ensures (read_of c.args.file.now).plan
-      (as-accepted (read_of c.args.file.now) (ap (λ (z : Sight). z.answer) (sym c.scan.ensures) ∙ e)),
-)
+returns c = (c.scan.ensures, accepted-sound c.args.file.now (below-each 256 c.args.file.now (λ i. (c.type_inv.file i).fits)) _ refl)

@@ -1,8 +1,7 @@
--- What the loops of `planback::subscribers` keep. Assumes nothing.
-use Prim.Native.Nat.{◌≤◌}
-use lib.ListN.{take}
+-- What the loop of `planback::subscribers` keeps. Assumes nothing.
+use Rattle.std.specs.Prelude.{take}
 use Rattle.planfile.specs.Typed.{AllTyped}
 use Rattle.planback.proofs.subscribers.Given as goal
 
-abbrev pub invariant-loop-i : goal.invariant-loop-i
-invariant-loop-i l = (l.i ≤ 256) × AllTyped (take l.i l.all)
+abbrev pub invariant-loop-s : goal.invariant-loop-s
+invariant-loop-s l = AllTyped (take l.s-index l.all)

@@ -16,8 +16,8 @@ returns-then-too_many c = sym (header-many c.args.stage c.args.count c.args.at c
 pub returns-then-not-ever_long : goal.returns-then-not-ever_long
 returns-then-not-ever_long c = sym (header-long c.args.stage c.args.count c.args.at c.args.bytes.now c.if-left-lt3.false (passed c.allowed.ensures c.if-not-allowed.false-raw) (sym c.too_many.ensures ∙ c.if-too_many.false) c.two-n.ensures (failed c.ever_long.ensures c.if-not-ever_long.true-raw))
 
-pub returns-then-left-n : goal.returns-then-left-n
-returns-then-left-n c = sym (header-body c.args.stage c.args.count c.args.at c.args.bytes.now c.if-left-lt3.false (passed c.allowed.ensures c.if-not-allowed.false-raw) (sym c.too_many.ensures ∙ c.if-too_many.false) c.two-n.ensures (passed c.ever_long.ensures c.if-not-ever_long.false-raw) c.if-left-n.true)
+pub returns-then-left-from : goal.returns-then-left-from
+returns-then-left-from c = sym (header-body c.args.stage c.args.count c.args.at c.args.bytes.now c.if-left-lt3.false (passed c.allowed.ensures c.if-not-allowed.false-raw) (sym c.too_many.ensures ∙ c.if-too_many.false) c.two-n.ensures (passed c.ever_long.ensures c.if-not-ever_long.false-raw) (rw c.from.ensures at c.if-left-from.true))
 
 pub returns : goal.returns
-returns c = sym (header-whole c.args.stage c.args.count c.args.at c.args.bytes.now c.if-left-lt3.false (passed c.allowed.ensures c.if-not-allowed.false-raw) (sym c.too_many.ensures ∙ c.if-too_many.false) c.two-n.ensures (passed c.ever_long.ensures c.if-not-ever_long.false-raw) c.if-left-n.false)
+returns c = sym (header-whole c.args.stage c.args.count c.args.at c.args.bytes.now c.if-left-lt3.false (passed c.allowed.ensures c.if-not-allowed.false-raw) (sym c.too_many.ensures ∙ c.if-too_many.false) c.two-n.ensures (passed c.ever_long.ensures c.if-not-ever_long.false-raw) (rw c.from.ensures at c.if-left-from.false))

@@ -5,8 +5,8 @@ use Prim.Native.Nat.{◌-◌}
 use Rattle.planread.proofs.Passing.{Passing}
 use Rattle.planread.proofs.pass_subscribers.Given as goal
 
-abbrev pub invariant-loop-r : goal.invariant-loop-r
-invariant-loop-r l = (source target : List ℕ) → Passing l.bytes l.types source target l.first l.second l.taken l.one l.other l.count l.last l.at
+abbrev pub invariant-loop-n : goal.invariant-loop-n
+invariant-loop-n l = (source target : List ℕ) → Passing l.bytes l.types source target l.first l.second l.taken l.one l.other l.count l.before l.at
 
-abbrev pub decreases-loop-r : goal.decreases-loop-r
-decreases-loop-r l = 257 - l.count
+abbrev pub decreases-loop-n : goal.decreases-loop-n
+decreases-loop-n l = 257 - l.count

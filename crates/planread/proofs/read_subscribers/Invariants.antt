@@ -4,8 +4,8 @@ use Prim.Native.Nat.{◌-◌}
 use Rattle.planread.proofs.Going.{Going}
 use Rattle.planread.proofs.read_subscribers.Given as goal
 
-abbrev pub invariant-loop-r : goal.invariant-loop-r
-invariant-loop-r l = Going l.bytes l.types l.source l.target l.taken l.subscribers l.count l.last l.at
+abbrev pub invariant-loop-subscribers : goal.invariant-loop-subscribers
+invariant-loop-subscribers l = Going l.bytes l.head.types l.head.source l.head.target l.taken l.subscribers l.count l.last l.at
 
-abbrev pub decreases-loop-r : goal.decreases-loop-r
-decreases-loop-r l = 257 - l.count
+abbrev pub decreases-loop-subscribers : goal.decreases-loop-subscribers
+decreases-loop-subscribers l = 257 - l.count

@@ -1,22 +1,36 @@
 -- `planread::verdict` meets its contract. Assumes nothing.
-use mathlib.Core.Path.{ap, ◌∙◌}
-use Rattle.planread.specs.declared.Reading.{Reading}
+use Rattle.std.proofs.Common.{rules, ◌≡◌, Result, sym, ap, ◌∙◌}
+use Rattle.refusal.specs.declared.Refusal.{Refusal}
+use Rattle.plan.specs.declared.Plan.{Plan}
+use Rattle.plan.specs.declared.Subscriber.{Subscriber}
+use Rattle.planread.specs.Scanning.{judged}
+use Rattle.planread.specs.Reading.{read_of}
 use Rattle.planread.proofs.Said.{verdict-said}
-use Rattle.planread.proofs.Passing.{passed-answer}
+use Rattle.planread.proofs.Passing.{passed, passed-answer}
 use Rattle.planread.proofs.Onward.{on-refused, on-sound}
-use borrow.Author.Rules.{rules}
+use Rattle.planread.proofs.verdict.Goals.{After-pass_subscribers}
 use Rattle.planread.proofs.verdict.Goals as goal
 
-pub pass_subscribers-p-requires : goal.pass_subscribers-p-requires
-pass_subscribers-p-requires c = (c.fixed-f.ensures.1 c.in-Sound.is, search rules)
+-- whether the subscribers were passed is whether the file is read
+same : (c : After-pass_subscribers) → passed c.pass_subscribers.result ≡ judged (read_of c.args.bytes.now)
+same c =
+    passed-answer c.pass_subscribers.result _ _ _ 0 0 _ (c.pass_subscribers.ensures c.in_ok-types.field-0.source c.in_ok-types.field-0.target)
+    ∙ ap (λ (r : Result Plan Refusal). judged r) (on-sound c.args.bytes.now c.fixed.ensures.0 c.in_ok-types.was)
 
-pub returns-in-Refused : goal.returns-in-Refused
-returns-in-Refused c = let t = verdict-said c.args.bytes.now
-    (ap (λ (x : Reading). x.answer) (on-refused _ _ _ _ c.fixed-f.ensures.0 c.in-Refused.is)) in
+pub returns-in_err-types : goal.returns-in_err-types
+returns-in_err-types c =
+    let refused = ap (λ (r : Result Plan Refusal). judged r) (on-refused c.args.bytes.now c.fixed.ensures.0 c.in_err-types.was) in
+    let t = verdict-said c.args.bytes.now {v = c.from_residual.result} (rw refused (search rules)) in
     record { value = t.0; numbered = t.1 }
 
-pub returns-in-Sound : goal.returns-in-Sound
-returns-in-Sound c = let t = verdict-said c.args.bytes.now
-    (passed-answer _ _ _ _ _ 0 0 _ (c.pass_subscribers-p.ensures c.fixed-f.result.source c.fixed-f.result.target)
-    ∙ ap (λ (x : Reading). x.answer) (on-sound _ _ _ _ c.fixed-f.ensures.0 c.in-Sound.is)) in
+pub returns-in_err-pass_subscribers : goal.returns-in_err-pass_subscribers
+returns-in_err-pass_subscribers c =
+    let refused = sym (same (goal.at.returns-in_err-pass_subscribers c).After-pass_subscribers) ∙ ap (λ (r : Result (Subscriber × Subscriber) Refusal). passed r) c.in_err-pass_subscribers.was in
+    let t = verdict-said c.args.bytes.now {v = c.from_residual-in_err-pass_subscribers.result} (rw refused (search rules)) in
+    record { value = t.0; numbered = t.1 }
+
+pub returns : goal.returns
+returns c =
+    let fine = sym (same (goal.at.returns c).After-pass_subscribers) ∙ ap (λ (r : Result (Subscriber × Subscriber) Refusal). passed r) c.in_ok-pass_subscribers.was in
+    let t = verdict-said c.args.bytes.now (sym fine) in
     record { value = t.0; numbered = t.1 }

@@ -1,10 +1,10 @@
 -- `planwrite::put_boxes` meets its contract. Assumes nothing.
-use mathlib.Core.Path.{◌≡◌, refl, sym, ap, ◌∙◌}
+use mathlib.Core.Path.{refl, sym, ap, ◌∙◌}
 use native.Mathlib.Omega.{arith}
 use borrow.Author.Rules.{rules}
 use Prim.Native.Nat.{◌≤◌, ◌<◌, ◌+◌, ◌*◌}
 use lib.ListN.{length, take, length-take}
-use lib.Seq.{length-sets, get_or-take}
+use lib.Seq.{length-sets}
 use Rattle.planwrite.proofs.Puts.{row-all, row_put, row-end}
 use Rattle.planwrite.proofs.put_boxes.Goals as goal
 
@@ -15,18 +15,19 @@ pub overflow_add-at : goal.overflow_add-at
 overflow_add-at c = omega arith
 
 pub put_two-requires : goal.put_two-requires
-put_two-requires c = omega arith
+put_two-requires c =
+    let few : length (take c.args.count c.args.boxes) ≤ c.args.count = simp length-take (omega arith) in
+    omega (arith, few)
 
 pub loop-x-preserved : goal.loop-x-preserved
 loop-x-preserved c =
     let i = c.loop-x.invariant in
-    let long : length c.args.boxes ≡ 4 = search rules in
-    let some : c.loop-x.x < c.args.count = search rules in
-    let below : c.loop-x.x < length (take c.args.count c.args.boxes) = simp (length-take, long) (omega arith) in
+    let few : length (take c.args.count c.args.boxes) ≤ c.args.count = simp length-take (omega arith) in
+    let below : c.loop-x.x < length (take c.args.count c.args.boxes) = omega arith in
     let put = c.put_two.ensures in (
-      search rules,
+      omega (arith, few, below),
       ap length put ∙ simp length-sets i.1,
-      rw (put, ← get_or-take c.args.count c.args.boxes c.loop-x.x 0 some) (sym (row_put 2 (take c.args.count c.args.boxes) c.loop-x.room c.args.at c.loop-x.x below) ∙ i.2),
+      rw put (sym (row_put 2 (take c.args.count c.args.boxes) c.loop-x.room c.args.at c.loop-x.x below) ∙ i.2),
     )
 
 pub shape_of-room : goal.shape_of-room
@@ -34,7 +35,5 @@ shape_of-room c = c.loop-x.invariant.1
 
 pub returns : goal.returns
 returns c =
-    let long : length c.args.boxes ≡ 4 = search rules in
-    let end : c.loop-x.x ≡ c.args.count = omega arith in
-    let all : length (take c.args.count c.args.boxes) ≤ c.args.count = simp length-take (omega arith) in
-    sym (row-end 2 (take c.args.count c.args.boxes) c.loop-x.room (c.args.at + 2 * c.args.count) c.args.count all) ∙ rw end at c.loop-x.invariant.2
+    let all : length (take c.args.count c.args.boxes) ≤ c.loop-x.x = omega arith in
+    sym (row-end 2 (take c.args.count c.args.boxes) c.loop-x.room (c.args.at + 2 * c.loop-x.x) c.loop-x.x all) ∙ c.loop-x.invariant.2

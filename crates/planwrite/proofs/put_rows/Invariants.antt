@@ -7,4 +7,4 @@ use Rattle.planbytes.specs.Numbers.{row}
 use Rattle.planwrite.proofs.put_rows.Given as goal
 
 abbrev pub invariant-loop-t : goal.invariant-loop-t
-invariant-loop-t l = (l.t ≤ 32) × (length l.room ≡ length l.initial.room) × (sets l.room (l.at + 4 * l.t) (row 4 (drop l.t l.rows)) ≡ sets l.initial.room l.at (row 4 l.rows))
+invariant-loop-t l = (l.t ≤ 32) × (length l.room ≡ length l.initial.room) × (sets l.room (l.at + 4 * l.t) (row 4 (drop l.t l.row-items)) ≡ sets l.initial.room l.at (row 4 l.row-items))

@@ -1,58 +1,43 @@
 -- `planwrite::put_subscribers` meets its contract. Assumes nothing.
-use mathlib.Core.Path.{◌≡◌, refl, sym, ap, ◌∙◌}
-use native.Mathlib.Omega.{arith}
-use borrow.Author.Rules.{rules}
-use Prim.Native.Nat.{◌<◌, ◌+◌}
-use lib.ListN.{length, take}
+use Rattle.std.proofs.Common.{rules, ◌≡◌, ◌<◌, ◌+◌, length, arith, refl, sym, ap, ◌∙◌}
+use Rattle.std.specs.Prelude.{take}
+use Rattle.std.proofs.lemmas.List.{get_or-take}
 use Rattle.plan.specs.Parts.{at}
 use Rattle.planbytes.specs.Format.{field, subscriber_body, subscriber_fields}
 use Rattle.planwrite.proofs.Puts.{fields-length, fields-done, put-less, put-length, put-none, put_next}
 use Rattle.planwrite.proofs.put_subscribers.Goals as goal
 
-pub loop-left-init : goal.loop-left-init
-loop-left-init c = (omega arith, refl, refl, refl, omega arith)
-
-pub offset_bounds-subscribers-i : goal.offset_bounds-subscribers-i
-offset_bounds-subscribers-i c = omega arith
-
-pub bounds-subscribers-i : goal.bounds-subscribers-i
-bounds-subscribers-i c = omega arith
+pub loop-s-init : goal.loop-s-init
+loop-s-init c = (refl, refl, refl, omega arith)
 
 pub put_subscriber-at-requires : goal.put_subscriber-at-requires
 put_subscriber-at-requires c =
     let long : length c.args.subscribers ≡ 256 = search rules in
-    let some : c.loop-left.i < c.args.count = omega arith in
-    let next = fields-length c.args.subscribers c.args.count c.loop-left.i long c.requires.0 some in
-    (omega arith, put-less c.args.put (289 + length (subscriber_fields (take c.args.count c.args.subscribers))) (rw c.loop-left.invariant.1 c.requires.1) (omega arith))
+    let some : c.loop-s.s-index < c.args.count = search rules in
+    let next = fields-length c.args.subscribers c.args.count c.loop-s.s-index long c.requires.0 some in
+    let i = c.loop-s.invariant in
+    rw (get_or-take c.args.count c.args.subscribers c.loop-s.s-index _ some)
+    (omega (arith, i.3, c.requires.0, some), put-less c.args.put (289 + length (subscriber_fields (take c.args.count c.args.subscribers))) (rw i.0 c.requires.1) (omega (arith, i.1, next)))
 
-pub overflow_add-i : goal.overflow_add-i
-overflow_add-i c = omega arith
-
-pub loop-left-smaller : goal.loop-left-smaller
-loop-left-smaller c = omega arith
-
-pub loop-left-preserved : goal.loop-left-preserved
-loop-left-preserved c =
-    let i = c.loop-left.invariant in
+pub loop-s-preserved : goal.loop-s-preserved
+loop-s-preserved c =
     let long : length c.args.subscribers ≡ 256 = search rules in
-    let some : c.loop-left.i < c.args.count = omega arith in
-    let next = fields-length c.args.subscribers c.args.count c.loop-left.i long c.requires.0 some in
-    let put = c.put_subscriber-at.ensures in (
-      omega arith,
-      ap length put.0 ∙ put-length c.args.put c.loop-left.room (field 5 (subscriber_body (at c.args.subscribers c.loop-left.i))) c.loop-left.at ∙ i.1,
-      omega arith,
-      put_next c.args.put c.args.subscribers c.args.count c.loop-left.i c.loop-left.room c.loop-left.at long c.requires.0 some put.0 put.1 ∙ i.3,
-      omega arith,
+    let some : c.loop-s.s-index < c.args.count = search rules in
+    let next = fields-length c.args.subscribers c.args.count c.loop-s.s-index long c.requires.0 some in
+    let i = c.loop-s.invariant in
+    let put = rw (get_or-take c.args.count c.args.subscribers c.loop-s.s-index _ some) at c.put_subscriber-at.ensures in (
+      ap length put.0 ∙ put-length c.args.put c.loop-s.room (field 5 (subscriber_body (at c.args.subscribers c.loop-s.s-index))) c.loop-s.at ∙ i.0,
+      omega (arith, i.1, next, put.1),
+      put_next c.args.put c.args.subscribers c.args.count c.loop-s.s-index c.loop-s.room c.loop-s.at long c.requires.0 some put.0 put.1 ∙ i.2,
+      omega (arith, i.3, put.2),
     )
-
-pub shape_of-room : goal.shape_of-room
-shape_of-room c = c.loop-left.invariant.1
 
 pub returns : goal.returns
 returns c =
-    let end : c.loop-left.i ≡ c.args.count = omega arith in
+    let long : length c.args.subscribers ≡ 256 = search rules in
+    let end : c.loop-s.s-index ≡ c.args.count = search rules in
     let none = fields-done c.args.subscribers c.args.count in
     let empty = ap length none in
-    let all = rw end at c.loop-left.invariant.2 in
-    let long : length c.args.subscribers ≡ 256 = search rules in
-    (sym (put-none c.args.put c.loop-left.room c.loop-left.at) ∙ rw (end, none) at c.loop-left.invariant.3, omega arith, omega arith, long)
+    let i = c.loop-s.invariant in
+    let all = rw end at i.1 in
+    (sym (put-none c.args.put c.loop-s.room c.loop-s.at) ∙ rw (end, none) at i.2, omega (arith, all, empty), omega (arith, i.3, end, c.requires.0), long)

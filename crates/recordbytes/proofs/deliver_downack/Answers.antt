@@ -1,17 +1,10 @@
 -- `recordbytes::deliver_downack` meets its contract. Assumes nothing.
 use native.Mathlib.Omega.{arith}
-use Prim.Native.Nat.{◌+◌}
 use lib.ListN.{length-set}
-use mathlib.Core.Path.{◌∙◌}
 use Rattle.recordbytes.specs.Numbers.{side_of}
 use Rattle.recordbytes.proofs.Numbers.{state-no-count}
 use Rattle.recordbytes.proofs.Acts.{downack-not, downack-handed, own-count-of}
 use Rattle.recordbytes.proofs.deliver_downack.Goals as goal
-
-pub shape_of-row : goal.shape_of-row
-shape_of-row c =
-    let a = c.args in
-    c.pop.auto.row ∙ length-set a.row.now (a.at + c.state_place-n.result) 0
 
 pub returns-then-row-at-lt4 : goal.returns-then-row-at-lt4
 returns-then-row-at-lt4 c =

@@ -3,16 +3,10 @@ use native.Mathlib.Omega.{arith}
 use Prim.Native.Nat.{◌+◌}
 use lib.ListN.{length-set}
 use Rattle.recordbytes.specs.Numbers.{side_of}
-use mathlib.Core.Path.{◌∙◌}
 use Rattle.call.specs.Protocol.{other}
 use Rattle.recordbytes.proofs.Numbers.{state-no-count, pop-no-count}
 use Rattle.recordbytes.proofs.Acts.{teardown-refused, no_room, teardown-handed, own-count-of}
 use Rattle.recordbytes.proofs.deliver_teardown.Goals as goal
-
-pub shape_of-row : goal.shape_of-row
-shape_of-row c =
-    let a = c.args in
-    c.push.auto.row ∙ c.pop.auto.row ∙ length-set a.row.now (a.at + c.state_place-n.result) c.torn.result
 
 pub returns-then-state-lt3 : goal.returns-then-state-lt3
 returns-then-state-lt3 c =

@@ -1,17 +1,10 @@
 -- `recordbytes::deliver_upack` meets its contract. Assumes nothing.
 use native.Mathlib.Omega.{arith}
-use Prim.Native.Nat.{◌+◌}
 use lib.ListN.{length-set}
-use mathlib.Core.Path.{◌∙◌}
 use Rattle.recordbytes.specs.Numbers.{side_of}
 use Rattle.recordbytes.proofs.Numbers.{state-no-count}
 use Rattle.recordbytes.proofs.Acts.{upack-not, upack-handed, own-count-of}
 use Rattle.recordbytes.proofs.deliver_upack.Goals as goal
-
-pub shape_of-row : goal.shape_of-row
-shape_of-row c =
-    let a = c.args in
-    c.pop.auto.row ∙ length-set a.row.now (a.at + c.state_place-n.result) 3
 
 pub returns-then-row-at-ne1 : goal.returns-then-row-at-ne1
 returns-then-row-at-ne1 c =

@@ -2,22 +2,11 @@
 use native.Mathlib.Omega.{arith}
 use Prim.Native.Nat.{◌+◌}
 use lib.ListN.{length-set}
-use mathlib.Core.Path.{refl, ◌∙◌}
+use mathlib.Core.Path.{refl}
 use Rattle.ends.specs.declared.Side.TheVariants.{Caller, Callee}
 use Rattle.recordbytes.proofs.Numbers.{state-no-count, put_count}
 use Rattle.recordbytes.proofs.Acts.{three-put}
 use Rattle.recordbytes.proofs.three_sent.Goals as goal
-
-pub shape_of-row : goal.shape_of-row
-shape_of-row c =
-    let a = c.args in
-    c.push-3.auto.row ∙ c.push-2.auto.row ∙ c.push.auto.row ∙ length-set a.row.now (a.at + 1) 4
-
-pub push-requires : goal.push-requires
-push-requires c =
-    let a = c.args in
-    let kept = state-no-count a.row.now a.at Callee Caller 4 refl refl in
-    simp length-set (omega (arith, c.requires.0, kept))
 
 pub push-requires-2 : goal.push-requires-2
 push-requires-2 c =

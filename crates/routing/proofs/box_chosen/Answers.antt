@@ -1,5 +1,5 @@
 -- `routing::box_chosen` meets its contract. Assumes nothing.
-use mathlib.Core.Path.{sym, ◌∙◌}
+use Rattle.std.proofs.Common.{rules, tests, sym, ◌∙◌}
 use Rattle.setup.specs.Setups.{routing}
 use Rattle.routing.specs.Interface.{interface_at}
 use Rattle.routing.specs.Steps.{callee4}
@@ -7,14 +7,14 @@ use Rattle.routing.proofs.Boxes.{interface-shown}
 use Rattle.routing.proofs.Chosen.{chosen_none, chosen-some}
 use Rattle.routing.proofs.box_chosen.Goals as goal
 
-pub returns-then-rest-eq0 : goal.returns-then-rest-eq0
+pub returns-then-is_empty : goal.returns-then-is_empty
 unfolding callee4
-returns-then-rest-eq0 c p shown =
+returns-then-is_empty c p shown =
     let a = c.args in
-    c.interface_of.ensures ∙ sym (interface-shown p a.target shown) ∙ sym (chosen_none a.rest.now _ _ c.if-rest-eq0.true)
+    c.interface_of.ensures ∙ sym (interface-shown p a.target shown) ∙ sym (chosen_none a.rest.now _ _ (search (rules, tests)))
 
 pub returns : goal.returns
 unfolding callee4
 returns c p shown =
     let a = c.args in
-    rw c.routing.ensures (sym (chosen-some a.rest.now (routing a.region a.source a.target) (interface_at p a.target) c.if-rest-eq0.false))
+    rw c.routing.ensures (sym (chosen-some a.rest.now (routing a.region a.source a.target) (interface_at p a.target) (search (rules, tests))))

@@ -1,53 +1,27 @@
 -- `routing::put` meets its contract. Assumes nothing.
-use mathlib.Core.Path.{◌≡◌, refl, sym, ap, ◌∙◌}
-use Prim.Native.Nat.{◌≤◌}
-use native.Mathlib.Omega.{arith}
-use lib.ListN.{length, take, length-set}
-use lib.Seq.{sets}
-use Rattle.setup.specs.Setups.{list_of}
-use Rattle.routing.proofs.Parts.{list-short, list-cut, store-next, store-done}
-use borrow.Author.Rules.{rules}
+use Rattle.std.proofs.Common.{rules, ◌≡◌, ◌≤◌, length, arith, sym}
+use Rattle.std.proofs.lemmas.List.{length-take-le}
+use Rattle.zone.specs.Order.{list_of}
+use Rattle.routing.proofs.Parts.{list-short, stored-front}
+use Rattle.routing.proofs.put.Goals.{After-as_slice-types}
 use Rattle.routing.proofs.put.Goals as goal
 
-pub loop-i-init : goal.loop-i-init
-loop-i-init c = (omega arith, refl, refl)
+-- the zone fits in
+fits : (c : After-as_slice-types) → length c.as_slice-types.result.now ≤ length c.args.list.now
+fits c =
+    let long : length c.args.zone.types ≡ 32 = search rules in
+    rw c.as_slice-types.ensures (omega (arith, list-short c.args.zone long, c.requires))
 
-pub bounds-types-i : goal.bounds-types-i
-bounds-types-i c =
-    let z = c.args.zone in
-    let long : length z.types ≡ 32 = search rules in
-    omega (arith, c.list_length-end.ensures, list-short z long, c.loop-i.invariant, c.loop-i-test.true)
+pub slice_bounds-copy_from_slice-end : goal.slice_bounds-copy_from_slice-end
+slice_bounds-copy_from_slice-end c = fits c
 
-pub bounds-list-i : goal.bounds-list-i
-bounds-list-i c =
-    let z = c.args.zone in
-    let long : length z.types ≡ 32 = search rules in
-    omega (arith, c.list_length-end.ensures, list-short z long, c.loop-i.invariant, c.loop-i-test.true, c.requires)
+pub slice_bounds-copy_from_slice-end-2 : goal.slice_bounds-copy_from_slice-end-2
+slice_bounds-copy_from_slice-end-2 c = sym (length-take-le _ c.args.list.now (fits (goal.at.slice_bounds-copy_from_slice-end-2 c).After-as_slice-types))
 
-pub overflow_add-i : goal.overflow_add-i
-overflow_add-i c =
-    let z = c.args.zone in
-    let long : length z.types ≡ 32 = search rules in
-    omega (arith, c.list_length-end.ensures, list-short z long, c.loop-i.invariant, c.loop-i-test.true)
-
-pub loop-i-smaller : goal.loop-i-smaller
-loop-i-smaller c = omega arith
-
-pub loop-i-preserved : goal.loop-i-preserved
-loop-i-preserved c =
-    let z = c.args.zone in
-    let i = c.loop-i.invariant in
-    let long : length z.types ≡ 32 = search rules in
-    let end : c.list_length-end.result ≤ length z.types = omega (arith, c.list_length-end.ensures, list-short z long) in
-    (omega arith, simp length-set i.1, sym (store-next _ z.types _ _ c.loop-i-test.true end) ∙ i.2)
-
-pub shape_of-list : goal.shape_of-list
-shape_of-list c = c.loop-i.invariant.1
+pub copy_from_slice-requires : goal.copy_from_slice-requires
+copy_from_slice-requires c = length-take-le _ c.args.list.now (fits (goal.at.copy_from_slice-requires c).After-as_slice-types)
 
 pub returns : goal.returns
 returns c =
-    let z = c.args.zone in
-    let i = c.loop-i.invariant in
-    let end : c.loop-i.i ≡ c.list_length-end.result = omega (arith, c.loop-i-test.false) in
-    let all : take c.list_length-end.result z.types ≡ list_of z = rw c.list_length-end.ensures (list-cut z) in
-    sym (store-done c.loop-i.list z.types c.list_length-end.result) ∙ rw end at i.2 ∙ ap (sets c.args.list.now 0) all
+    let short = fits (goal.at.returns c).After-as_slice-types in
+    rw (c.copy_from_slice.ensures.after, c.as_slice-types.ensures) (sym (stored-front (list_of c.args.zone) c.args.list.now (rw c.as_slice-types.ensures at short)))

@@ -13,4 +13,4 @@ returns c =
     let rest = c.args.rest.now in
     let asked : length rest ≤ 32 = c.requires in
     let short : length (tail rest) ≤ 32 = omega (arith, tail-length rest) in
-    rw (c.kept_string.ensures, c.listed.ensures, c.tail.ensures, all-32 (tail rest) short)
+    rw (c.kept_string-dialled.ensures, c.listed-list.ensures, c.tail.ensures, all-32 (tail rest) short)

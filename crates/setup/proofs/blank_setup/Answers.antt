@@ -4,4 +4,4 @@ use Rattle.setup.proofs.blank_setup.Goals as goal
 
 pub returns : goal.returns
 unfolding blank
-returns c = rw (c.empty_string.ensures, c.empty_list.ensures)
+returns c = rw (c.dial-nothing.ensures, c.empty-nowhere.ensures)

@@ -1,30 +1,19 @@
 -- `setup::legal_string` meets its contract. Assumes nothing.
-use mathlib.Core.Path.{◌≡◌, sym}
-use Rattle.typeset.proofs.Bools.{passed, failed}
-use Rattle.typeset.proofs.Below.{every-none, every_more, every-no}
-use lib.ListN.{length}
-use Rattle.setup.specs.Dialling.{legal_string}
+use Rattle.std.proofs.Common.{rules, tests, sym, ◌∙◌}
+use Rattle.std.proofs.lemmas.Iterator.{YieldsList-from_slice}
+use Rattle.std.proofs.lemmas.Iterator.Search.{all_from_yields_List}
+use Rattle.typeset.proofs.Bools.{yes_or_no}
 use borrow.Author.Tests.{le-leb, lt-leb}
-use native.Mathlib.Omega.{arith}
-use borrow.Author.Rules.{rules}
+use Rattle.setup.specs.Dialling.{symbol, legal_string}
+use Rattle.typeset.proofs.Listed.{items-all}
 use Rattle.setup.proofs.legal_string.Goals as goal
 
-pub returns-then-s-gt32 : goal.returns-then-s-gt32
+pub returns-then-s-le32 : goal.returns-then-s-le32
 unfolding legal_string
-returns-then-s-gt32 c = rw (lt-leb _ 32 c.if-s-gt32.true)
+returns-then-s-le32 c =
+    rw (le-leb _ 32 c.if-s-le32.true)
+    (all_from_yields_List symbol _ _ _ c.all.ensures.ran (YieldsList-from_slice _ c.iter.ensures.rest) (λ x b q k. search (rules, tests)) ∙ items-all symbol c.args.s.now 0)
 
-pub loop-i-init : goal.loop-i-init
-loop-i-init c = (search rules, every-none _)
-
-pub returns-then-not-symbol : goal.returns-then-not-symbol
+pub returns-else-s-le32 : goal.returns-else-s-le32
 unfolding legal_string
-returns-then-not-symbol c = rw (le-leb _ 32 c.if-s-gt32.false) (sym (every-no _ _ _ c.loop-i-test.true (failed c.symbol.ensures c.if-not-symbol.true-raw)))
-
-pub loop-i-preserved : goal.loop-i-preserved
-loop-i-preserved c = (search rules, every_more _ _ c.loop-i.invariant.1 (passed c.symbol.ensures c.if-not-symbol.false-raw))
-
-pub returns : goal.returns
-unfolding legal_string
-returns c =
-    let end : c.loop-i.i ≡ length c.args.s.now = omega arith in
-    rw (le-leb _ 32 c.if-s-gt32.false) (sym (rw end at c.loop-i.invariant.1))
+returns-else-s-le32 c = rw (lt-leb _ 32 c.if-s-le32.false)

@@ -1,5 +1,5 @@
 -- `setup::listed` meets its contract. Assumes nothing.
-use mathlib.Core.Path.{sym, ◌∙◌}
+use Rattle.std.proofs.Common.{sym, ◌∙◌}
 use Rattle.zone.specs.Order.{held}
 use Rattle.setup.specs.Dialling.{padded}
 use Rattle.setup.proofs.Stored.{first-32}
@@ -7,4 +7,4 @@ use Rattle.setup.proofs.listed.Goals as goal
 
 pub returns : goal.returns
 unfolding held padded
-returns c = λ i. record { types = c.filled.ensures i; len = (c.at_most_32.ensures ∙ sym (first-32 c.args.s.now)) i }
+returns c = λ i. record { types = c.filled-types.ensures i; len = (c.min.ensures ∙ sym (first-32 c.args.s.now)) i }

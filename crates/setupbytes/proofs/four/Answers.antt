@@ -1,7 +1,6 @@
 -- `setupbytes::four` meets its contract. Assumes nothing.
-use native.Mathlib.Omega.{arith}
+use Rattle.std.proofs.Common.{arith, rules}
 use Rattle.planbytes.proofs.Numbers.{four-at}
-use borrow.Author.Rules.{rules}
 use Rattle.setupbytes.proofs.four.Goals as goal
 
 pub returns : goal.returns

@@ -1,7 +1,15 @@
 -- `setupbytes::head` meets its contract. Assumes nothing.
-use Rattle.setupbytes.specs.Codec.{head}
+use Rattle.std.proofs.Common.{Option, Some, None, ◌≡◌, ℕ, refl, ◌∙◌}
+use Rattle.std.specs.Option.{unwrap_or}
+use Rattle.setupbytes.specs.Codec.{or_zero, head}
 use Rattle.setupbytes.proofs.head.Goals as goal
+
+as-zero : (o : Option ℕ) → unwrap_or o 0 ≡ or_zero o
+as-zero None = refl
+as-zero (Some n) = refl
 
 pub returns : goal.returns
 unfolding head
-returns c = rw (← c.region_number.ensures, ← c.route_number.ensures, ← c.placed.ensures, ← c.placing_type.ensures, ← c.given.ensures, ← c.outer_address.ensures) c.head_of.ensures
+returns c =
+    rw (← c.region_number.ensures, ← c.route_number.ensures, ← c.given.ensures, ← c.given-2.ensures, ← (c.unwrap_or.ensures ∙ as-zero c.args.s.placing), ← (c.unwrap_or-2.ensures ∙ as-zero c.args.s.outer))
+    c.head_of.ensures

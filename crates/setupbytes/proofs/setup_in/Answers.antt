@@ -10,8 +10,8 @@ returns-then-b-ne110 c = rw (c.blank_setup.ensures, ne_eqb _ 110 c.if-b-ne110.tr
 
 pub returns-then-not-same : goal.returns-then-not-same
 unfolding setup_in
-returns-then-not-same c = rw (c.blank_setup-then-not-same.ensures, eq-eqb _ 110 c.if-b-ne110.false, ← c.fields_in-s.ensures, ← c.setup_bytes-again.ensures, failed c.same.ensures c.if-not-same.true-raw)
+returns-then-not-same c = rw (c.blank_setup-then-not-same.ensures, eq-eqb _ 110 c.if-b-ne110.false, ← c.fields_in-s.ensures, ← c.setup_bytes.ensures, failed c.same.ensures c.if-not-same.true-raw)
 
 pub returns : goal.returns
 unfolding setup_in
-returns c = rw (eq-eqb _ 110 c.if-b-ne110.false, ← c.fields_in-s.ensures, ← c.setup_bytes-again.ensures, passed c.same.ensures c.if-not-same.false-raw)
+returns c = rw (eq-eqb _ 110 c.if-b-ne110.false, ← c.fields_in-s.ensures, ← c.setup_bytes.ensures, passed c.same.ensures c.if-not-same.false-raw)

@@ -1,34 +1,23 @@
 -- `soundness::claim` meets its contract. Assumes nothing.
-use mathlib.Core.Path.{◌≡◌, sym, ◌∙◌}
-use native.Mathlib.Omega.{arith}
-use borrow.Author.Rules.{rules}
-use lib.ListN.{length}
-use Rattle.plan.proofs.Numbers.{rest_all, rest-next, rest-skip, rest-done, claimed-none, claimed-one}
+use Rattle.std.proofs.Common.{◌≡◌, ℕ, ◌+◌, ◌<◌, List, [], refl, length, get_or, take, drop, ap, ◌∙◌, rules, add-one, drop-cons}
+use Rattle.std.proofs.lemmas.List.{take_min}
+use Rattle.std.proofs.Math.ListN.{drop_of_length-le}
+use Prim.Native.Nat.{min}
+use Rattle.plan.specs.Table.{entered, takes, claimed}
 use Rattle.soundness.proofs.claim.Goals as goal
-use Rattle.soundness.proofs.claim.Goals.{then-x-s, else-x-s}
 
-pub returns-then-s-eq0 : goal.returns-then-s-eq0
-returns-then-s-eq0 c = sym (claimed-none _ _ c.if-s-eq0.true)
+takes-next : (taken : List ℕ) (kind : ℕ) (ns : List ℕ) (i : ℕ) → i < length ns → takes (entered taken (get_or ns i 0) kind) kind (drop (i + 1) ns) ≡ takes taken kind (drop i ns)
+unfolding takes
+takes-next taken kind ns i h = rw (add-one i, drop-cons ns i 0 h) refl
 
-pub returns-then-s-eq1 : goal.returns-then-s-eq1
-returns-then-s-eq1 c =
-    let long : length c.args.s.boxes ≡ 4 = search rules in
-    c.take_number.ensures ∙ sym (claimed-one _ _ long c.if-s-eq1.true)
-
-pub loop-x-init : goal.loop-x-init
-loop-x-init c = (search rules, rest_all _ _)
-
-pub loop-x-preserved : goal.loop-x-preserved
-loop-x-preserved c =
-    let i = c.loop-x.invariant in
-    let long : length c.args.s.boxes ≡ 4 = search rules in
-    elim c.if-x-s.branch [
-      | then-x-s w ↦ (search rules, rw (w.taken-is ∙ w.take_number-then-x-s.ensures) (sym (rest-next _ _ _ long (omega arith) w.if-x-s.true) ∙ i.1))
-      | else-x-s w ↦ (search rules, rw w.taken-is (sym (rest-skip _ _ _ w.if-x-s.false) ∙ i.1))
-    ]
+pub loop-n-preserved : goal.loop-n-preserved
+loop-n-preserved c = rw c.take_number.ensures (takes-next _ _ _ _ c.loop-n-test.true ∙ c.loop-n.invariant)
 
 pub returns : goal.returns
+unfolding claimed takes
 returns c =
-    let long : length c.args.s.boxes ≡ 4 = search rules in
-    let end : c.loop-x.x ≡ 4 = omega arith in
-    sym (rest-done _ _ long) ∙ rw end at c.loop-x.invariant.1
+    let numbers = take c.min.result c.args.s.boxes in
+    let least : c.min.result ≡ min c.args.s.count (length c.args.s.boxes) = search rules in
+    let all : numbers ≡ take c.args.s.count c.args.s.boxes = rw least (take_min _ _) in
+    let end : drop c.loop-n.n-index numbers ≡ [] = drop_of_length-le numbers c.loop-n-test.false in
+    rw end at c.loop-n.invariant ∙ ap (takes c.args.taken.now c.args.s.kind) all

@@ -1,12 +1,7 @@
--- `soundness::claim` meets its contract. The loop's invariant looks forward: what the numbers from place x on still do gives the whole result. Assumes nothing.
-use mathlib.Core.Path.{◌≡◌}
-use Prim.Native.Nat.{◌≤◌, ◌-◌}
-use Rattle.plan.proofs.Numbers.{rest}
-use Rattle.plan.specs.Table.{claimed}
+-- `soundness::claim` meets its contract. The loop's invariant looks forward: what the numbers that are left still do gives the whole result. Assumes nothing.
+use Rattle.std.proofs.Common.{◌≡◌, drop}
+use Rattle.plan.specs.Table.{takes}
 use Rattle.soundness.proofs.claim.Given as goal
 
-abbrev pub invariant-loop-x : goal.invariant-loop-x
-invariant-loop-x l = (l.x ≤ 4) × (rest l.taken l.s l.x ≡ claimed l.initial.taken l.s)
-
-abbrev pub decreases-loop-x : goal.decreases-loop-x
-decreases-loop-x l = 4 - l.x
+abbrev pub invariant-loop-n : goal.invariant-loop-n
+invariant-loop-n l = takes l.taken l.fn.s.kind (drop l.n-index l.numbers) ≡ takes l.initial.taken l.fn.s.kind l.numbers

@@ -1,29 +1,24 @@
 -- `soundness::rest_blank` meets its contract. Assumes nothing.
-use mathlib.Core.Path.{◌≡◌, sym}
-use native.Mathlib.Omega.{arith}
-use borrow.Author.Rules.{rules}
-use borrow.Author.Tests.{le-leb, lt-leb}
-use Rattle.typeset.proofs.Bools.{passed, failed}
-use Rattle.typeset.proofs.Below.{every_of, every_more, every-no}
-use Rattle.plan.specs.Rules.{rest_blank}
+use Rattle.std.proofs.Common.{◌≡◌, ◌+◌, ◌-◌, length, drop, leb, rules, tests, ◌∙◌, ap, arith, length-drop}
+use Rattle.std.proofs.lemmas.List.{get_or-drop, take_all}
+use Rattle.std.proofs.lemmas.Iterator.{YieldsList-from_slice}
+use Rattle.std.proofs.lemmas.Iterator.Search.{all_from_yields_List}
+use Rattle.typeset.specs.Sets.{every, implies}
+use Rattle.typeset.proofs.Below.{every-ext}
+use Rattle.typeset.proofs.Listed.{items-all, every-from}
+use Rattle.plan.specs.Parts.{nobody, at}
+use Rattle.plan.specs.Rules.{blank, rest_blank}
 use Rattle.soundness.proofs.rest_blank.Goals as goal
-
-pub loop-i-init : goal.loop-i-init
-loop-i-init c = (search rules, search rules, every_of _ _ (λ k h. rw (lt-leb _ k h)))
-
-pub returns-then-not-blank : goal.returns-then-not-blank
-unfolding rest_blank
-returns-then-not-blank c =
-    sym (every-no 256 _ _ c.loop-i-test.true
-    (rw (le-leb _ _ c.loop-i.invariant.0) (failed c.blank.ensures c.if-not-blank.true-raw)))
-
-pub loop-i-preserved : goal.loop-i-preserved
-loop-i-preserved c =
-    let i = c.loop-i.invariant in
-    (search rules, search rules, every_more _ _ i.2 (rw (le-leb _ _ i.0) (passed c.blank.ensures c.if-not-blank.false-raw)))
 
 pub returns : goal.returns
 unfolding rest_blank
 returns c =
-    let end : c.loop-i.i ≡ 256 = omega arith in
-    sym (rw end at c.loop-i.invariant.2)
+    let subs = c.args.subscribers.now in
+    let count = c.args.count in
+    let many : length (drop count subs) ≡ 256 - count = length-drop count subs ∙ ap (λ n. n - count) c.told-subscribers in
+    let all : count + (256 - count) ≡ 256 = omega (arith, c.requires) in
+    all_from_yields_List blank _ _ _ c.all.ensures.ran (YieldsList-from_slice (drop count subs) (c.iter.ensures.rest ∙ take_all (256 - count) (drop count subs) (omega (arith, many)))) (λ x b q k. search (rules, tests))
+    ∙ items-all blank (drop count subs) nobody
+    ∙ every-ext _ _ (λ k. blank (at subs (count + k))) (λ k h. ap blank (get_or-drop count subs k nobody))
+    ∙ rw many (every-from count (256 - count) (λ i. blank (at subs i)))
+    ∙ ap (λ n. every n (λ i. implies (leb count i) (blank (at subs i)))) all

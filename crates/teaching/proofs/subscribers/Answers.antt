@@ -1,11 +1,11 @@
 -- `teaching::subscribers` meets its contract. Assumes nothing.
 use mathlib.Core.List.{◌∷◌}
 use lib.ListN.{replicate}
-use Rattle.teaching.specs.Teaching.{unused, subscribers}
+use Rattle.teaching.specs.Teaching.{subscriber, unused, subscribers}
 use Rattle.teaching.proofs.subscribers.Goals as goal
 
 pub returns : goal.returns
-unfolding subscribers unused
+unfolding subscribers unused subscriber
 returns c =
     λ i.
     (c.subscriber.ensures i)
@@ -14,4 +14,4 @@ returns c =
     ∷ (c.subscriber-4.ensures i)
     ∷ (c.subscriber-5.ensures i)
     ∷ (c.subscriber-6.ensures i)
-    ∷ replicate 250 (c.subscriber-nobody.ensures i)
+    ∷ replicate 250 (c.no_subscriber-nobody.ensures i)

@@ -44,14 +44,6 @@ pub bounds-bytes-i : goal.bounds-bytes-i
 bounds-bytes-i c =
     omega (arith, c.loop-i.invariant.0, c.loop-i-test.true, c.size-len.ensures, (size_low c.args.n).0, (size_low c.args.n).1)
 
-pub overflow_add-i : goal.overflow_add-i
-overflow_add-i c =
-    omega (arith, c.loop-i.invariant.0, c.loop-i-test.true, c.size-len.ensures, (size_low c.args.n).0, (size_low c.args.n).1)
-
-pub loop-i-smaller : goal.loop-i-smaller
-loop-i-smaller c =
-    omega (arith, c.loop-i.invariant.0, c.loop-i-test.true, c.size-len.ensures, (size_low c.args.n).0, (size_low c.args.n).1)
-
 pub loop-i-preserved : goal.loop-i-preserved
 unfolding tens
 loop-i-preserved c =

@@ -9,6 +9,3 @@ use Rattle.text.proofs.decimal.Given as goal
 abbrev pub invariant-loop-i : goal.invariant-loop-i
 invariant-loop-i l =
     (l.i ≤ l.len) × (sets l.bytes l.i (last_digits (l.len - l.i) l.n) ≡ sets (replicate 10 0) 0 (last_digits l.len l.n))
-
-abbrev pub decreases-loop-i : goal.decreases-loop-i
-decreases-loop-i l = l.len - l.i

@@ -1,28 +1,29 @@
 -- `zone::preceded` meets its contract. Assumes nothing.
-use native.Mathlib.Omega.{arith}
-use Rattle.typeset.proofs.Laws.{join-lt, without-lt}
-use Rattle.typeset.proofs.Taken.{taken-below, taken-has, taken-less}
+use Rattle.std.proofs.Common.{◌≡◌, ap, ◌∙◌, rules, arith}
+use Rattle.typeset.proofs.Laws.{join-lt}
+use Rattle.typeset.proofs.Taken.{taken-below, taken-has}
+use Rattle.typeset.proofs.InTurn.{left_of, left-lt, left-all, none-left, some-left, lowest-left, others-left}
 use Rattle.zone.proofs.Rows.{found_none, found-row, found_all}
 use Rattle.zone.proofs.preceded.Goals as goal
 
-pub loop-rest-init : goal.loop-rest-init
-loop-rest-init c = (omega arith, omega arith, found_none _ _)
+pub loop-u-init : goal.loop-u-init
+loop-u-init c =
+    let all : c.into_iter-u-iterator.result.left ≡ c.args.set = search rules in
+    (omega arith, rw (ap left_of all ∙ left-all c.ranges.set.fits) (found_none c.args.rows.now c.args.set))
 
 pub bounds-rows-u : goal.bounds-rows-u
-bounds-rows-u c = taken-below c.loop-rest.invariant.0 c.loop-rest-test.true c.lowest-u.ensures
+bounds-rows-u c =
+    let e = c.in-Some.ensures.steps in
+    taken-below (left-lt _) (some-left _ _ _ e) (lowest-left _ _ _ e)
 
-pub loop-rest-smaller : goal.loop-rest-smaller
-loop-rest-smaller c = taken-less c.loop-rest.invariant.0 c.loop-rest-test.true c.lowest-u.ensures c.without-rest.ensures
-
-pub loop-rest-preserved : goal.loop-rest-preserved
-loop-rest-preserved c =
-    let i = c.loop-rest.invariant in
-    let some = c.loop-rest-test.true in
-    let low = c.lowest-u.ensures in
-    rw (c.without-rest.ensures, c.join-found.ensures)
-    (without-lt _ _, join-lt _ _, found-row _ _ _ _ _ i.2 (taken-below i.0 some low) (taken-has i.0 some low))
+pub loop-u-preserved : goal.loop-u-preserved
+loop-u-preserved c =
+    let e = c.in-Some.ensures.steps in
+    let i = c.loop-u.invariant in
+    rw (others-left _ _ _ e, c.join-found.ensures)
+    (join-lt _ _, found-row _ _ _ _ _ i.1 (taken-below (left-lt _) (some-left _ _ _ e) (lowest-left _ _ _ e)) (taken-has (left-lt _) (some-left _ _ _ e) (lowest-left _ _ _ e)))
 
 pub returns : goal.returns
 returns c =
-    let i = c.loop-rest.invariant in
-    found_all _ _ _ i.1 (rw c.loop-rest-test.false at i.2)
+    let i = c.loop-u.invariant in
+    found_all _ _ _ i.0 (rw (none-left _ c.in-None.ensures.steps.0) at i.1)
