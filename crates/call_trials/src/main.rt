@@ -11,7 +11,7 @@ mod records;
 use call::{Call, Command, Side};
 use call_script::asked::{is_command, is_for_row, name_at, number_at, number_behind};
 use call_script::{asked, told};
-use console::{Tally, Word, before, behind, says};
+use console::{EachLine, Tally, Word, before, behind, place_of, says};
 use ends::Signal;
 use making::Maker;
 use placing::Placed;
@@ -67,8 +67,11 @@ fn put_record(alloc: Global, row: &mut [u8], r: usize, c: &Call) -> Result<(), A
 
 // The record that a line sets, where it sets one.
 fn put_said(alloc: Global, row: &mut [u8], words: &[Word]) -> Result<(), AllocError> {
-    match behind(words, Word::Name("record")) {
-        Some(said) => put_record(alloc, row, number_at(said, 0), &asked::record_of(said)),
+    match place_of(words, Word::Name("record")) {
+        Some(at) => {
+            let said = &words[at..];
+            put_record(alloc, row, number_at(said, 1), &asked::record_of(said))
+        }
         None => Ok(()),
     }
 }
@@ -516,11 +519,36 @@ fn one_line(
     tally.judge(rt, text, &words, came.as_str())
 }
 
+// The scene and the tally go on from line to line.
+#[derive(Drop)]
+struct Script<'a, R> {
+    rt: &'a R,
+    tally: Tally,
+    scene: Scene,
+}
+
+impl<R: Print + AllocGlobal> EachLine for Script<'_, R> {
+    fn take_line(&mut self, text: &[u8]) -> io::Result<()> {
+        one_line(self.rt, &mut self.tally, &mut self.scene, text)
+    }
+}
+
+// Beside `main`, which the check does not cover where it holds a `Script`.
+fn all_lines(rt: &(impl Input + Print + AllocGlobal)) -> io::Result<()> {
+    let mut script = Script {
+        rt,
+        tally: Tally::new(),
+        scene: Scene::new(),
+    };
+    console::for_each_line(
+        &mut rt.reader(),
+        console::MOST_LINES,
+        &mut [0; 1000],
+        &mut script,
+    )?;
+    println!(rt; "{}", script.tally)
+}
+
 fn main(rt: HostRuntime) -> io::Result<()> {
-    let mut tally = Tally::new();
-    let mut scene = Scene::new();
-    console::for_each_line(&mut rt.reader(), &mut [0; 1000], |text| {
-        one_line(&rt, &mut tally, &mut scene, text)
-    })?;
-    println!(rt; "{tally}")
+    all_lines(&rt)
 }

@@ -27,7 +27,7 @@ module _ {M : Type 1} {𝓤 : Ura M} (𝓛 : Logic 𝓤) (mem : Memory → SProp
 
   pub command-exact : (κs : Lfts (command.signature).lifetimes) (a : Args command.signature κs) (g h : (command.clauses 𝓛 mem run κs a).ghost) (r s : Res command.signature κs) (e f : AtExit command.ended κs)
       → ent 𝓤 (conj 𝓤 ((command.clauses 𝓛 mem run κs a).ensures g r e) ((command.clauses 𝓛 mem run κs a).ensures h s f)) (fact 𝓤 ((r ≡ s) × (e.0.now ≡ f.0.now)))
-  command-exact κs a g h r s e f = any-two 𝓛 ((r ≡ s) × (e.0.now ≡ f.0.now)) (λ p q. answering-fixes r s e.0.now f.0.now (p ∙ sym q))
+  command-exact κs a g h r s e f = any-two 𝓛 ((r ≡ s) × (e.0.now ≡ f.0.now)) (λ p q. answering-fixes r s e.0.now f.0.now (p.0 ∙ sym q.0))
 
   -- AND EACH RESULT that a contract allows has document 01's number
   pub port-command-numbered : (κs : Lfts (port-command.signature).lifetimes) (a : Args port-command.signature κs) (g : (port-command.clauses 𝓛 mem run κs a).ghost) (r : Res port-command.signature κs) (e : AtExit port-command.ended κs)
@@ -36,4 +36,4 @@ module _ {M : Type 1} {𝓤 : Ura M} (𝓛 : Logic 𝓤) (mem : Memory → SProp
 
   pub command-numbered : (κs : Lfts (command.signature).lifetimes) (a : Args command.signature κs) (g : (command.clauses 𝓛 mem run κs a).ghost) (r : Res command.signature κs) (e : AtExit command.ended κs)
       → ent 𝓤 ((command.clauses 𝓛 mem run κs a).ensures g r e) (fact 𝓤 (number_in r ≡ number_commanded a.0.now a.1.0 a.1.1.0 a.1.1.1.0))
-  command-numbered κs a g r e = fact_mono 𝓤 _ (number_in r ≡ number_commanded a.0.now a.1.0 a.1.1.0 a.1.1.1.0) (λ p. ap (λ (t : Turn). number_of_reply t.reply) p ∙ command-number a.0.now a.1.0 a.1.1.0 a.1.1.1.0)
+  command-numbered κs a g r e = fact_mono 𝓤 _ (number_in r ≡ number_commanded a.0.now a.1.0 a.1.1.0 a.1.1.1.0) (λ p. ap (λ (t : Turn). number_of_reply t.reply) p.0 ∙ command-number a.0.now a.1.0 a.1.1.0 a.1.1.1.0)

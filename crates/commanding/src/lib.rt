@@ -6,6 +6,7 @@ ghost use Rattle.std.specs.Prelude.{◌≡◌};
 ghost use Rattle.call.specs.Protocol.{step};
 ghost use Rattle.call.specs.Row.{command as by-command, in_use, turn};
 ghost use Rattle.exchange.specs.Lent as lent;
+ghost use Rattle.commanding.specs.Lent.{commanded};
 
 use call::{Call, Command, Signal};
 use refusal::Refusal;
@@ -33,7 +34,8 @@ pub fn command(
     use_number: u16,
     k: Command,
 ) -> Result<Option<Signal>, Refusal>
-    ensures { lent.answering result row.new ≡ turn row.old (by-command r use_number k) }
+    ensures { (lent.answering result row.new ≡ turn row.old (by-command r use_number k))
+        × (lent.answering result row.new ≡ commanded row.old r use_number k) }
 {
     if 1024 < row.len() {
         return Err(Refusal::RowTooLong);

@@ -4,7 +4,7 @@
 
 ghost use Rattle.std.specs.Prelude.{◌<◌};
 
-use console::Word;
+use console::{EachLine, Word};
 use links::Termination;
 use refusal::Refusal;
 use std::alloc::{AllocError, Global};
@@ -163,9 +163,30 @@ fn one_line(rt: &(impl Print + AllocGlobal), links: &mut [u64; 64], text: &[u8])
     }
 }
 
+// The links go on from line to line.
+#[derive(Drop)]
+struct Script<'a, R> {
+    rt: &'a R,
+    links: [u64; 64],
+}
+
+impl<R: Print + AllocGlobal> EachLine for Script<'_, R> {
+    fn take_line(&mut self, text: &[u8]) -> io::Result<()> {
+        one_line(self.rt, &mut self.links, text)
+    }
+}
+
+// Beside `main`, which the check does not cover where it holds a `Script`.
+fn all_lines(rt: &(impl Input + Print + AllocGlobal)) -> io::Result<()> {
+    let mut script = Script { rt, links: [0; 64] };
+    console::for_each_line(
+        &mut rt.reader(),
+        console::MOST_LINES,
+        &mut [0; 200],
+        &mut script,
+    )
+}
+
 fn main(rt: HostRuntime) -> io::Result<()> {
-    let mut links = [0; 64];
-    console::for_each_line(&mut rt.reader(), &mut [0; 200], |text| {
-        one_line(&rt, &mut links, text)
-    })
+    all_lines(&rt)
 }

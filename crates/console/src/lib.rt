@@ -13,7 +13,7 @@ use std::env::FillError;
 use std::io::Read;
 use std::rt::{Env, Files};
 use std::{fs, io, str};
-pub use trial::{Tally, for_each_line, is_remark, trials};
+pub use trial::{Answering, EachLine, MOST_LINES, Tally, for_each_line, is_remark, trials};
 pub use words::{
     Word, after, before, behind, in_small_letters, known, number_after, place_of, run_after, says,
     words_of,

@@ -3,12 +3,12 @@
 ghost use Rattle.std.specs.Prelude.{◌≡◌, ◌+◌, ◌%◌, ◌^◌, OnOk, IsTrue, IsFalse};
 
 use crate::words::{Word, before, behind, in_small_letters, words_of};
-use std::alloc::AllocError;
+use std::alloc::{AllocError, Global};
 use std::io::Read;
 use std::{fmt, io};
 
-// More lines than any script or table has: a loop must end.
-const MOST_LINES: u32 = 100_000;
+// More lines than any script or table has, but that of `desk_trials`, which has a number of its own: a loop must end.
+pub const MOST_LINES: u32 = 100_000;
 
 // Whether a line is no case: empty, or a remark.
 pub fn is_remark(text: &[u8]) -> bool {
@@ -93,47 +93,65 @@ impl Tally {
     }
 }
 
-// Hands each line of the input to a function, as many bytes of it as there is room for.
-pub fn for_each_line<R: Read, F: FnMut(&[u8]) -> io::Result<()>>(
+// What a program does with each line of its input. A trait and no closure: its method may always be called, so nothing is asked of a caller.
+pub trait EachLine {
+    fn take_line(&mut self, text: &[u8]) -> io::Result<()>;
+}
+
+// Hands on each line of the input, as many bytes of it as there is room for. No more lines are read than `most`.
+pub fn for_each_line<R: Read, L: EachLine>(
     input: &mut R,
+    most: u32,
     room: &mut [u8],
-    mut f: F,
-) -> io::Result<()>
-    requires { F.IsAlwaysCallable f }
-{
-    for _ in 0..MOST_LINES {
+    lines: &mut L,
+) -> io::Result<()> {
+    for _ in 0..most {
         match crate::read_line(input, room)? {
-            Some(n) => f(&room[..n])?,
+            Some(n) => lines.take_line(&room[..n])?,
             None => break,
         }
     }
     Ok(())
 }
 
-// Tries the cases of the table on standard input by a function that says in words what comes of what is asked.
-pub fn trials<R: Input + Print + AllocGlobal, F: FnMut(&[Word]) -> Result<String, AllocError>>(
+// What a trial program says, in words, to what a line asks.
+pub trait Answering {
+    fn answer(&mut self, alloc: Global, asked: &[Word]) -> Result<String, AllocError>;
+}
+
+// The lines of a table, whose cases are tried.
+#[derive(Drop)]
+struct Cases<'a, R, A> {
+    rt: &'a R,
+    tally: Tally,
+    answering: &'a mut A,
+}
+
+impl<R: Print + AllocGlobal, A: Answering> EachLine for Cases<'_, R, A> {
+    fn take_line(&mut self, text: &[u8]) -> io::Result<()> {
+        self.tally.next_line();
+        if is_remark(text) {
+            return Ok(());
+        }
+        let alloc = self.rt.alloc();
+        let small = in_small_letters(alloc, text)?;
+        let words = words_of(alloc, &small)?;
+        let came = self.answering.answer(alloc, before(&words, Word::Equals))?;
+        self.tally.judge(self.rt, text, &words, came.as_str())
+    }
+}
+
+// Tries the cases of the table on standard input: what is asked is answered in words. The tally is for the program to print.
+pub fn trials<R: Input + Print + AllocGlobal, A: Answering>(
     rt: &R,
     room: &mut [u8],
-    mut answer: F,
-) -> io::Result<()>
-    requires { (state : F) (x : _) → F.pre state x }
-{
-    let mut tally = Tally::new();
-    for_each_line(
-        &mut rt.reader(),
-        room,
-        |text|
-            requires { (state : F) (x : _) → F.pre state x }
-        {
-            tally.next_line();
-            if is_remark(text) {
-                return Ok(());
-            }
-            let small = in_small_letters(rt.alloc(), text)?;
-            let words = words_of(rt.alloc(), &small)?;
-            let came = answer(before(&words, Word::Equals))?;
-            tally.judge(rt, text, &words, came.as_str())
-        },
-    )?;
-    println!(rt; "{tally}")
+    answering: &mut A,
+) -> io::Result<Tally> {
+    let mut cases = Cases {
+        rt,
+        tally: Tally::new(),
+        answering,
+    };
+    for_each_line(&mut rt.reader(), MOST_LINES, room, &mut cases)?;
+    Ok(cases.tally)
 }

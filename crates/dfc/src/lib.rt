@@ -449,6 +449,22 @@ pub extern "C" fn dfc_place(
     settled(place_over(file, out, row, source_list, target_list), room)
 }
 
+fn port_place_over(
+    file: &[u8],
+    out: Setup,
+    port: &mut [u8; 614],
+    source_list: &mut [u8],
+    target_list: &mut [u8],
+) -> Result<placing::Placed, Refusal>
+    ensures { (result ≡ place_over file.now out (call_at port.old 0 ∷ []) (length source_list.old) (length target_list.old))
+        × (port.new ≡ port_placed file.now out port.old (length source_list.old) (length target_list.old))
+        × (source_list.new ≡ source_placed file.now out (call_at port.old 0 ∷ []) (length source_list.old) (length target_list.old) source_list.old)
+        × (target_list.new ≡ target_placed file.now out (call_at port.old 0 ∷ []) (length source_list.old) (length target_list.old) target_list.old) }
+{
+    let v = planback::scan(file, out.source, routing::extracted(out))?;
+    rowbytes::port_place(true, port, v, out, source_list, target_list)
+}
+
 // A call placed in a port's record, as in a row of one.
 #[unsafe(no_mangle)]
 pub extern "C" fn dfc_port_place(
@@ -465,5 +481,9 @@ pub extern "C" fn dfc_port_place(
         × (target_list.new ≡ target_placed file.now (setup_in setup.now) (call_at port.old 0 ∷ []) (length source_list.old) (length target_list.old) target_list.old)
         × (room.new ≡ placed_room (place_over file.now (setup_in setup.now) (call_at port.old 0 ∷ []) (length source_list.old) (length target_list.old)) room.old) }
 {
-    dfc_place(file, setup, port, source_list, target_list, room)
+    let out = setupbytes::setup_in(setup);
+    settled(
+        port_place_over(file, out, port, source_list, target_list),
+        room,
+    )
 }

@@ -4,7 +4,7 @@
 
 mod data;
 
-use console::Word;
+use console::{EachLine, Word};
 use refusal::Refusal;
 use std::io;
 use store_script::{FeatureBox, Stored};
@@ -92,9 +92,33 @@ fn one_line(rt: &(impl Print + AllocGlobal), stored: &mut Stored, text: &[u8]) -
     }
 }
 
+// What is stored goes on from line to line.
+#[derive(Drop)]
+struct Script<'a, R> {
+    rt: &'a R,
+    stored: Stored,
+}
+
+impl<R: Print + AllocGlobal> EachLine for Script<'_, R> {
+    fn take_line(&mut self, text: &[u8]) -> io::Result<()> {
+        one_line(self.rt, &mut self.stored, text)
+    }
+}
+
+// Beside `main`, which the check does not cover where it holds a `Script`.
+fn all_lines(rt: &(impl Input + Print + AllocGlobal)) -> io::Result<()> {
+    let mut script = Script {
+        rt,
+        stored: data::provisioned(),
+    };
+    console::for_each_line(
+        &mut rt.reader(),
+        console::MOST_LINES,
+        &mut [0; 200],
+        &mut script,
+    )
+}
+
 fn main(rt: HostRuntime) -> io::Result<()> {
-    let mut stored = data::provisioned();
-    console::for_each_line(&mut rt.reader(), &mut [0; 200], |text| {
-        one_line(&rt, &mut stored, text)
-    })
+    all_lines(&rt)
 }

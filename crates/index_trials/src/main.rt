@@ -4,7 +4,7 @@
 
 mod plans;
 
-use console::{Word, says};
+use console::{Answering, Word, says};
 use plan::{Plan, Region};
 use std::alloc::{AllocError, Global};
 use std::io;
@@ -180,7 +180,17 @@ fn answer(alloc: Global, asked: &[Word]) -> Result<String, AllocError> {
     }
 }
 
+// Each line is answered by itself: nothing is kept for the next.
+#[derive(Clone, Copy)]
+struct Answers;
+
+impl Answering for Answers {
+    fn answer(&mut self, alloc: Global, asked: &[Word]) -> Result<String, AllocError> {
+        answer(alloc, asked)
+    }
+}
+
 fn main(rt: HostRuntime) -> io::Result<()> {
-    let alloc = rt.alloc();
-    console::trials(&rt, &mut [0; 1000], |asked| answer(alloc, asked))
+    let tally = console::trials(&rt, &mut [0; 1000], &mut Answers)?;
+    println!(rt; "{tally}")
 }

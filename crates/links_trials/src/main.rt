@@ -3,7 +3,7 @@
 
 ghost use Rattle.std.specs.Prelude.{◌<◌};
 
-use console::{Word, behind, number_after, says};
+use console::{Answering, Word, behind, number_after, says};
 use links::Termination;
 use refusal::Refusal;
 use std::alloc::{AllocError, Global};
@@ -190,7 +190,17 @@ fn answer(alloc: Global, words: &[Word]) -> Result<String, AllocError> {
     told(alloc, outcome, &before, &after)
 }
 
+// Each line is answered by itself: nothing is kept for the next.
+#[derive(Clone, Copy)]
+struct Answers;
+
+impl Answering for Answers {
+    fn answer(&mut self, alloc: Global, asked: &[Word]) -> Result<String, AllocError> {
+        answer(alloc, asked)
+    }
+}
+
 fn main(rt: HostRuntime) -> io::Result<()> {
-    let alloc = rt.alloc();
-    console::trials(&rt, &mut [0; 1000], |asked| answer(alloc, asked))
+    let tally = console::trials(&rt, &mut [0; 1000], &mut Answers)?;
+    println!(rt; "{tally}")
 }

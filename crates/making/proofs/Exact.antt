@@ -23,6 +23,12 @@ use Rattle.making.proofs.continued_setup.Kinds as continued-setup-kinds
 use Rattle.making.proofs.reversed_setup.Reads as reversed-setup
 use Rattle.making.proofs.reversed_setup.Kinds as reversed-setup-kinds
 use mathlib.Core.Bool.{Bool}
+use Rattle.making.proofs.new_tested.Reads as new-tested
+use Rattle.making.proofs.new_tested.Kinds as new-tested-kinds
+use Rattle.making.proofs.continued_tested.Reads as continued-tested
+use Rattle.making.proofs.continued_tested.Kinds as continued-tested-kinds
+use Rattle.making.proofs.reversed_tested.Reads as reversed-tested
+use Rattle.making.proofs.reversed_tested.Kinds as reversed-tested-kinds
 use Rattle.making.proofs.new_seen.Reads as new-seen
 use Rattle.making.proofs.new_seen.Kinds as new-seen-kinds
 use Rattle.making.proofs.continued_seen.Reads as continued-seen
@@ -45,6 +51,19 @@ continued-setup-exact κs plan maker setup source string target end r s p q = p.
 pub reversed-setup-exact : (κs : Lfts 1) (plan : Plan) (maker : Maker) (setup : Setup) (source : ℕ) (string : Bor (List ℕ)) (target : ℕ) (end : AtExit (ended_of 1 reversed-setup-kinds.ps reversed-setup-kinds.r) κs) (r s : Result Setup Refusal)
     → reversed-setup.Post κs (plan, (maker, (setup, (source, (string, (target, tt)))))) r end → reversed-setup.Post κs (plan, (maker, (setup, (source, (string, (target, tt)))))) s end → r ≡ s
 reversed-setup-exact κs plan maker setup source string target end r s p q = p.0 ∙ sym q.0
+
+-- by a verdict on the plan
+pub new-tested-exact : (κs : Lfts 1) (kept : Bool) (plan : Plan) (maker : Maker) (string : Bor (List ℕ)) (target : ℕ) (end : AtExit (ended_of 1 new-tested-kinds.ps new-tested-kinds.r) κs) (r s : Result Setup Refusal)
+    → new-tested.Post κs (kept, (plan, (maker, (string, (target, tt))))) r end → new-tested.Post κs (kept, (plan, (maker, (string, (target, tt))))) s end → r ≡ s
+new-tested-exact κs kept plan maker string target end r s p q = p ∙ sym q
+
+pub continued-tested-exact : (κs : Lfts 1) (kept : Bool) (plan : Plan) (maker : Maker) (setup : Setup) (source : ℕ) (string : Bor (List ℕ)) (target : ℕ) (end : AtExit (ended_of 1 continued-tested-kinds.ps continued-tested-kinds.r) κs) (r s : Result Setup Refusal)
+    → continued-tested.Post κs (kept, (plan, (maker, (setup, (source, (string, (target, tt))))))) r end → continued-tested.Post κs (kept, (plan, (maker, (setup, (source, (string, (target, tt))))))) s end → r ≡ s
+continued-tested-exact κs kept plan maker setup source string target end r s p q = p ∙ sym q
+
+pub reversed-tested-exact : (κs : Lfts 1) (kept : Bool) (plan : Plan) (maker : Maker) (setup : Setup) (source : ℕ) (string : Bor (List ℕ)) (target : ℕ) (end : AtExit (ended_of 1 reversed-tested-kinds.ps reversed-tested-kinds.r) κs) (r s : Result Setup Refusal)
+    → reversed-tested.Post κs (kept, (plan, (maker, (setup, (source, (string, (target, tt))))))) r end → reversed-tested.Post κs (kept, (plan, (maker, (setup, (source, (string, (target, tt))))))) s end → r ≡ s
+reversed-tested-exact κs kept plan maker setup source string target end r s p q = p ∙ sym q
 
 -- by what a plan shows, wherever some plan shows it
 pub new-seen-exact : (κs : Lfts 1) (kept : Bool) (v : Seen) (maker : Maker) (string : Bor (List ℕ)) (target : ℕ) (end : AtExit (ended_of 1 new-seen-kinds.ps new-seen-kinds.r) κs) (r s : Result Setup Refusal) (plan : Plan) (second : ℕ)

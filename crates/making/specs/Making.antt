@@ -17,6 +17,7 @@ use Rattle.making.specs.declared.Maker.TheVariants.{Feature, Line, Trunk, Resour
 use Rattle.setup.specs.Dialling.{legal_string}
 use Rattle.setup.specs.Setups.{routing, routing_address, well_formed}
 pub use Rattle.made.specs.Made.{or_kept, string_or, outer_for, source_in, target_in, turned}
+unfoldable pub use Rattle.setup.specs.Setups.{blank as blank_setup}
 unfoldable pub use Rattle.made.specs.Made.{new_setup, further, continued_setup, reversed_setup}
 
 -- ---- the box that makes a setup (a resource or error box makes none, and an interface box has no type: the 0 beside them is never used)

@@ -221,13 +221,27 @@ pub fn new_seen(
     Ok(made::new_of(box_address(maker), string, target_arg))
 }
 
+// A new setup, after the test: `kept` says whether the plan is sound.
+fn new_tested(
+    kept: bool,
+    plan: Plan,
+    maker: Maker,
+    string: &[u8],
+    target_arg: u32,
+) -> Result<Setup, Refusal>
+    ensures { result ≡ new_answer_by kept plan maker string.now target_arg }
+{
+    let v = plan::look(plan, box_address(maker), 0);
+    new_seen(kept, v, maker, string, target_arg)
+}
+
 // A new setup (manual 5.4), for any plan, maker, bytes and number.
 pub fn new_setup(plan: Plan, maker: Maker, string: &[u8], target_arg: u32) -> Result<Setup, Refusal>
     ensures value { result ≡ new_answer plan maker string.now target_arg }
     ensures numbered { (number_said result ≡ first_of (new_rows plan maker string.now target_arg)) × (place_said result ≡ cond (sound plan) None (Some 0)) }
 {
-    let v = plan::look(plan, box_address(maker), 0);
-    new_seen(soundness::sound(plan), v, maker, string, target_arg)
+    let kept = soundness::sound(plan);
+    new_tested(kept, plan, maker, string, target_arg)
 }
 
 // A setup continued by what a plan shows, for a caller that has not built the plan: `v` shows the box's address as the first and the routing address of `s` as the second, and `kept` says whether
@@ -247,6 +261,22 @@ pub fn continued_seen(
     Ok(made::continued_of(box_address(maker), s, source_arg, string, target_arg))
 }
 
+// A setup continued, after the test.
+fn continued_tested(
+    kept: bool,
+    plan: Plan,
+    maker: Maker,
+    s: Setup,
+    source_arg: u32,
+    string: &[u8],
+    target_arg: u32,
+) -> Result<Setup, Refusal>
+    ensures { result ≡ continued_answer_by kept plan maker s source_arg string.now target_arg }
+{
+    let v = plan::look(plan, box_address(maker), setup::routing_address(s));
+    continued_seen(kept, v, maker, s, source_arg, string, target_arg)
+}
+
 // A setup continued (manual 5.5), for any plan, maker, stored setup and arguments.
 pub fn continued_setup(
     plan: Plan,
@@ -259,9 +289,8 @@ pub fn continued_setup(
     ensures value { result ≡ continued_answer plan maker s source_arg string.now target_arg }
     ensures numbered { (number_said result ≡ first_of (continued_rows plan maker s source_arg string.now target_arg)) × (place_said result ≡ cond (sound plan) None (Some 0)) }
 {
-    let v = plan::look(plan, box_address(maker), setup::routing_address(s));
     let kept = soundness::sound(plan);
-    continued_seen(kept, v, maker, s, source_arg, string, target_arg)
+    continued_tested(kept, plan, maker, s, source_arg, string, target_arg)
 }
 
 // Continued and reversed stay two, as C and docs/PROMISES name them: their refusals stand in two tables.
@@ -289,6 +318,22 @@ pub fn reversed_seen(
     ))
 }
 
+// A setup reversed, after the test.
+fn reversed_tested(
+    kept: bool,
+    plan: Plan,
+    maker: Maker,
+    s: Setup,
+    source_arg: u32,
+    string: &[u8],
+    target_arg: u32,
+) -> Result<Setup, Refusal>
+    ensures { result ≡ reversed_answer_by kept plan maker s source_arg string.now target_arg }
+{
+    let v = plan::look(plan, box_address(maker), setup::routing_address(s));
+    reversed_seen(kept, v, maker, s, source_arg, string, target_arg)
+}
+
 // A setup reversed (manual 5.6), for any plan, maker, setup once sent and arguments.
 pub fn reversed_setup(
     plan: Plan,
@@ -301,7 +346,6 @@ pub fn reversed_setup(
     ensures value { result ≡ reversed_answer plan maker s source_arg string.now target_arg }
     ensures numbered { (number_said result ≡ first_of (reversed_rows plan maker s source_arg string.now target_arg)) × (place_said result ≡ cond (sound plan) None (Some 0)) }
 {
-    let v = plan::look(plan, box_address(maker), setup::routing_address(s));
     let kept = soundness::sound(plan);
-    reversed_seen(kept, v, maker, s, source_arg, string, target_arg)
+    reversed_tested(kept, plan, maker, s, source_arg, string, target_arg)
 }

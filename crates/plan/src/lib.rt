@@ -124,10 +124,10 @@ pub fn no_subscriber() -> Subscriber
 fn holder(plan: Plan, address: u32) -> Subscriber
     ensures { result ≡ holder_at plan address }
 {
-    match find(plan, address) {
-        Some(i) => plan.subscribers[i],
-        None => no_subscriber(),
-    }
+    let Some(i) = find(plan, address) else {
+        return no_subscriber();
+    };
+    plan.subscribers[i]
 }
 
 // What any plan shows of two addresses.

@@ -5,7 +5,7 @@
 mod draft;
 mod file;
 
-use console::{Tally, Word, before};
+use console::{EachLine, Tally, Word, before};
 use draft::Draft;
 use file::{File, UNWRITTEN};
 use plan::Plan;
@@ -137,10 +137,34 @@ fn one_line(rt: &(impl Print + AllocGlobal), tally: &mut Tally, text: &[u8]) -> 
     try_words(rt, tally, text, &words)
 }
 
+// The tally goes on from line to line.
+#[derive(Drop)]
+struct Table<'a, R> {
+    rt: &'a R,
+    tally: Tally,
+}
+
+impl<R: Print + AllocGlobal> EachLine for Table<'_, R> {
+    fn take_line(&mut self, text: &[u8]) -> io::Result<()> {
+        one_line(self.rt, &mut self.tally, text)
+    }
+}
+
+// Beside `main`, which the check does not cover where it holds a `Table`.
+fn all_lines(rt: &(impl Input + Print + AllocGlobal)) -> io::Result<()> {
+    let mut table = Table {
+        rt,
+        tally: Tally::new(),
+    };
+    console::for_each_line(
+        &mut rt.reader(),
+        console::MOST_LINES,
+        &mut [0; 1000],
+        &mut table,
+    )?;
+    println!(rt; "{}", table.tally)
+}
+
 fn main(rt: HostRuntime) -> io::Result<()> {
-    let mut tally = Tally::new();
-    console::for_each_line(&mut rt.reader(), &mut [0; 1000], |text| {
-        one_line(&rt, &mut tally, text)
-    })?;
-    println!(rt; "{tally}")
+    all_lines(&rt)
 }

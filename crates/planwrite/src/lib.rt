@@ -7,7 +7,7 @@ ghost use Rattle.plan.specs.Sound.{sound};
 ghost use Rattle.planbytes.specs.Numbers.{high, row};
 ghost use Rattle.planbytes.specs.Format.{field, version_body, types_body, order_body, subscriber_body, head_fields, subscriber_fields, bytes_of};
 ghost use Rattle.refusal.specs.Numbers.{number_said, place_said};
-ghost use Rattle.planwrite.specs.Writing.{written, room_after};
+ghost use Rattle.planwrite.specs.Writing.{written_by, room_after_by, written, room_after};
 
 use plan::{Plan, Subscriber, Types};
 use refusal::Refusal;
@@ -182,17 +182,15 @@ fn places(count: u16) -> usize
     usize::from(count).min(256)
 }
 
-// A sound plan's file into the room, if it fits in: how many bytes it has. The bytes past it stay.
-pub fn write(plan: Plan, room: &mut [u8]) -> Result<usize, Refusal>
-    ensures value { (result ≡ written plan room.old) × (room.new ≡ room_after plan room.old) }
-    ensures numbered { (number_said result ≡ cond (sound plan) (cond (leb (length (bytes_of plan)) (length room.old)) 0 25) 23)
-        × (place_said result ≡ cond (sound plan && leb (length (bytes_of plan)) (length room.old)) None (Some 0)) }
+// Writing, after the test: `kept` says whether the plan is sound.
+fn write_tested(kept: bool, plan: Plan, room: &mut [u8]) -> Result<usize, Refusal>
+    ensures { (result ≡ written_by kept plan room.old) × (room.new ≡ room_after_by kept plan room.old) }
 {
     let source = plan.source_order;
     let target = plan.target_order;
     let subscribers = plan.subscribers;
     let count = places(plan.count);
-    if !soundness::sound(plan) {
+    if !kept {
         return Err(Refusal::RuleBroken(0));
     }
     // Only counted: no byte is written before the room is known to be long enough. The end field has three bytes.
@@ -205,4 +203,14 @@ pub fn write(plan: Plan, room: &mut [u8]) -> Result<usize, Refusal>
     put_subscribers(room, subscribers, count, true);
     put_header(room, end, 127, 0);
     Ok(size)
+}
+
+// A sound plan's file into the room, if it fits in: how many bytes it has. The bytes past it stay.
+pub fn write(plan: Plan, room: &mut [u8]) -> Result<usize, Refusal>
+    ensures value { (result ≡ written plan room.old) × (room.new ≡ room_after plan room.old) }
+    ensures numbered { (number_said result ≡ cond (sound plan) (cond (leb (length (bytes_of plan)) (length room.old)) 0 25) 23)
+        × (place_said result ≡ cond (sound plan && leb (length (bytes_of plan)) (length room.old)) None (Some 0)) }
+{
+    let kept = soundness::sound(plan);
+    write_tested(kept, plan, room)
 }

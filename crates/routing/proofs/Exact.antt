@@ -26,6 +26,8 @@ use Rattle.routing.proofs.route.Kinds as route-kinds
 use Rattle.routing.proofs.route_unless.Reads as route-unless
 use Rattle.routing.proofs.route_unless.Kinds as route-unless-kinds
 use mathlib.Core.Bool.{Bool}
+use Rattle.routing.proofs.route_tested.Reads as route-tested
+use Rattle.routing.proofs.route_tested.Kinds as route-tested-kinds
 use Rattle.routing.proofs.route_seen.Reads as route-seen
 use Rattle.routing.proofs.route_seen.Kinds as route-seen-kinds
 
@@ -54,6 +56,12 @@ pub route-unless-numbered : (κs : Lfts 2) (plan : Plan) (out : Setup) (later : 
     → (number_said r ≡ number_given plan out later (length source.now) (length target.now))
     × (place_said r ≡ place_given plan out later (length source.now) (length target.now))
 route-unless-numbered κs plan out later source target end r p = said plan out later (length source.now) (length target.now) r p.0
+
+-- by a verdict on the plan
+pub route-tested-exact : (κs : Lfts 2) (kept : Bool) (plan : Plan) (out : Setup) (later : (Result ⊤ Refusal)) (source target : MutBor (List ℕ)) (end end' : AtExit (ended_of 2 route-tested-kinds.ps route-tested-kinds.r) κs) (r s : Result Routed Refusal)
+    → route-tested.Post κs (kept, (plan, (out, (later, (source, (target, tt)))))) r end → route-tested.Post κs (kept, (plan, (out, (later, (source, (target, tt)))))) s end'
+    → (r ≡ s) × (end.1.1.1.1.0.now ≡ end'.1.1.1.1.0.now) × (end.1.1.1.1.1.0.now ≡ end'.1.1.1.1.1.0.now)
+route-tested-exact κs kept plan out later source target end end' r s p q = (p.0 ∙ sym q.0, p.1 ∙ sym q.1, p.2 ∙ sym q.2)
 
 -- by what a plan shows: where some plan shows it
 pub route-seen-exact : (κs : Lfts 2) (kept : Bool) (v : Seen) (out : Setup) (later : (Result ⊤ Refusal)) (source target : MutBor (List ℕ)) (end end' : AtExit (ended_of 2 route-seen-kinds.ps route-seen-kinds.r) κs) (r s : Result Routed Refusal)

@@ -34,6 +34,7 @@ use Rattle.routing.specs.Places.{suffix_begins, begins, delivered, advanced, set
 use Rattle.plan.specs.Parts.{of_region}
 use Rattle.routing.proofs.Parts.{stored-front}
 use Rattle.routing.specs.declared.Callee.{Callee}
+use Rattle.routing.specs.declared.Routed.{Routed}
 
 -- ---- the target
 
@@ -233,14 +234,18 @@ pub answer-refused : (kept : Bool) (p : Plan) (out : Setup) (later : (Result ⊤
 unfolding answer_by
 answer-refused kept p out later n m r e = rw (list-refused kept p out later n m r e)
 
--- what is answered is refused as the outcome is
-has-outcome : (o : Result Callee Refusal) (s : Setup) (n : ℕ) (r : Refusal) → answered o s n ≡ Err r → o ≡ Err r
-has-outcome (Ok c) s n r e = let never : ◌≡◌ {A = ℕ} 0 1 = cc in absurd (omega arith)
-has-outcome (Err q) s n r e = let same : q ≡ r = cc in ap Err same
+-- the box of what is answered, or its refusal: that of the outcome
+abbrev pub callee_said : Result Routed Refusal → Result Callee Refusal
+callee_said (Ok a) = Ok a.callee
+callee_said (Err r) = Err r
 
-pub answer-outcome : (kept : Bool) (p : Plan) (out : Setup) (later : Result ⊤ Refusal) (n m : ℕ) (r : Refusal) → answer_by kept p out later n m ≡ Err r → outcome_by kept p out later n m ≡ Err r
+has-outcome : (o : Result Callee Refusal) (s : Setup) (n : ℕ) → callee_said (answered o s n) ≡ o
+has-outcome (Ok c) s n = refl
+has-outcome (Err r) s n = refl
+
+pub answer-outcome : (kept : Bool) (p : Plan) (out : Setup) (later : Result ⊤ Refusal) (n m : ℕ) → callee_said (answer_by kept p out later n m) ≡ outcome_by kept p out later n m
 unfolding answer_by
-answer-outcome kept p out later n m r e = has-outcome (outcome_by kept p out later n m) (received_of p out) (left_of p out) r e
+answer-outcome kept p out later n m = has-outcome (outcome_by kept p out later n m) (received_of p out) (left_of p out)
 
 pub source-routed : (kept : Bool) (p : Plan) (out : Setup) (later : (Result ⊤ Refusal)) (n m : ℕ) (z : Zone) (l : List ℕ) → settled_by kept p out later n m ≡ Ok tt → list_of z ≡ zone_at p Source out.source
     → length (list_of z) ≤ length l → sets l 0 (list_of z) ≡ source_list_after p out (outcome_by kept p out later n m) l

@@ -313,6 +313,23 @@ pub fn route_seen(
     ))
 }
 
+// Routing, after the test: `kept` says whether the plan is sound.
+fn route_tested(
+    kept: bool,
+    plan: Plan,
+    out: Setup,
+    later: Result<(), Refusal>,
+    source_list: &mut [u8],
+    target_list: &mut [u8],
+) -> Result<Routed, Refusal>
+    ensures { (result ≡ answer_by kept plan out later (length source_list.old) (length target_list.old))
+        × (source_list.new ≡ source_list_after plan out (outcome_by kept plan out later (length source_list.old) (length target_list.old)) source_list.old)
+        × (target_list.new ≡ target_list_after plan out (outcome_by kept plan out later (length source_list.old) (length target_list.old)) target_list.old) }
+{
+    let v = plan::look(plan, out.source, extracted(out));
+    route_seen(kept, v, out, later, source_list, target_list)
+}
+
 // The callee box of any setup under any plan, the setup received and how many types are left, with the zones of source and target in the two lent lists; or 23, 5, 18 and then the caller's own
 // refusal, with nothing written. It is for a caller that has more to settle before a call can be placed.
 pub fn route_unless(
@@ -326,9 +343,8 @@ pub fn route_unless(
         × (source_list.new ≡ source_list_after plan out (outcome plan out later (length source_list.old) (length target_list.old)) source_list.old)
         × (target_list.new ≡ target_list_after plan out (outcome plan out later (length source_list.old) (length target_list.old)) target_list.old) }
 {
-    let v = plan::look(plan, out.source, extracted(out));
     let kept = soundness::sound(plan);
-    route_seen(kept, v, out, later, source_list, target_list)
+    route_tested(kept, plan, out, later, source_list, target_list)
 }
 
 // The same, for a caller that has nothing more to settle: 23, 5, 18.

@@ -70,7 +70,8 @@ pub fn symbol(c: u8) -> bool
 pub fn legal_string(s: &[u8]) -> bool
     ensures { result ≡ legal_string s.now }
 {
-    s.len() <= 32 && s.iter().all(|c| symbol(*c))
+    let few = s.len() <= 32;
+    few && s.iter().all(|c| symbol(*c))
 }
 
 // Whether a string in a setup is legal.

@@ -5,7 +5,7 @@
 mod asked;
 mod told;
 
-use console::{Word, before, behind, says};
+use console::{Answering, Word, before, behind, says};
 use std::alloc::{AllocError, Global};
 use std::fmt::Write;
 use std::io;
@@ -160,7 +160,17 @@ fn answer(alloc: Global, asked: &[Word]) -> Result<String, AllocError> {
     }
 }
 
+// Each line is answered by itself: nothing is kept for the next.
+#[derive(Clone, Copy)]
+struct Answers;
+
+impl Answering for Answers {
+    fn answer(&mut self, alloc: Global, asked: &[Word]) -> Result<String, AllocError> {
+        answer(alloc, asked)
+    }
+}
+
 fn main(rt: HostRuntime) -> io::Result<()> {
-    let alloc = rt.alloc();
-    console::trials(&rt, &mut [0; 1000], |asked| answer(alloc, asked))
+    let tally = console::trials(&rt, &mut [0; 1000], &mut Answers)?;
+    println!(rt; "{tally}")
 }

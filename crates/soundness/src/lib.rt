@@ -144,11 +144,13 @@ fn no_numbers(boxes: [u16; 4]) -> bool
 }
 
 // L20: whether the places past the count of subscribers are blank.
+
 fn rest_blank(subscribers: &[Subscriber; 256], count: usize) -> bool
     requires { count ≤ 256 }
     ensures { result ≡ rest_blank subscribers.now count }
 {
-    subscribers[count..].iter().all(|s| blank(*s))
+    // By number, so that the line says which place is the last.
+    (count..256usize).all(|i| blank(subscribers[i]))
 }
 
 // Whether the plan keeps every rule.

@@ -2,7 +2,7 @@
 // expected. A refusal is told with the word `changed` where it changed a word.
 #![tactic(auto)]
 
-use console::{Word, says};
+use console::{Answering, Word, says};
 use std::alloc::{AllocError, Global};
 use std::io;
 use store_script::{FeatureBox, Row, Stored};
@@ -116,8 +116,26 @@ fn step(alloc: Global, stored: &mut Stored, asked: &[Word]) -> Result<String, Al
     format!(in alloc; "set")
 }
 
+// What the steps so far have stored.
+#[derive(Drop)]
+struct Script {
+    stored: Stored,
+}
+
+impl Answering for Script {
+    fn answer(&mut self, alloc: Global, asked: &[Word]) -> Result<String, AllocError> {
+        step(alloc, &mut self.stored, asked)
+    }
+}
+
 fn main(rt: HostRuntime) -> io::Result<()> {
-    let alloc = rt.alloc();
-    let mut stored = Stored::new();
-    console::trials(&rt, &mut [0; 400], |asked| step(alloc, &mut stored, asked))
+    let mut script = Script {
+        stored: Stored::new(),
+    };
+    let tally = console::trials(&rt, &mut [0; 400], &mut script)?;
+    // A script that may go on past the last line read is not summed up.
+    if tally.lines < console::MOST_LINES {
+        println!(rt; "{tally}")?;
+    }
+    Ok(())
 }

@@ -1,7 +1,7 @@
 // Text in lent bytes: bytes stored from a place on, and numbers as decimal digits.
 #![tactic(auto)]
 
-ghost use Rattle.std.specs.Prelude.{◌≡◌, min, take};
+ghost use Rattle.std.specs.Prelude.{◌≡◌, length, min, take};
 ghost use Rattle.std.proofs.lemmas.List.Edits.{sets};
 ghost use Rattle.text.specs.Decimal.{size, digits};
 
@@ -50,11 +50,19 @@ pub fn decimal(n: u32) -> Digits
     }
 }
 
+// Bytes into a part of a room that is as long.
+fn store(part: &mut [u8], bytes: &[u8])
+    requires { length part.old ≡ length bytes.now }
+    ensures { part.new ≡ bytes.now }
+{
+    part.copy_from_slice(bytes);
+}
+
 // Stores bytes in a lent room from one place on: as many as fit; what is past the room's end is left out.
 pub fn put(bytes: &[u8], at: usize, room: &mut [u8])
     ensures { room.new ≡ sets room.old at bytes.now }
 {
     let from = at.min(room.len());
     let n = bytes.len().min(room.len() - from);
-    room[from..from + n].copy_from_slice(&bytes[..n]);
+    store(&mut room[from..from + n], &bytes[..n]);
 }

@@ -5,3 +5,4 @@ pub mod Taken
 pub mod Exact
 pub mod Listed
 pub mod InTurn
+pub mod NextSet

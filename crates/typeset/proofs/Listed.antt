@@ -85,7 +85,7 @@ members-all s q f = listed-all 32 (λ t. has t s) q ∙ every-ext 32 _ q (λ t l
 
 -- ---- the numbers below n
 
-numbers-from : (a n : ℕ) (q : ℕ → Bool) → list_all q (range_with_len a n) ≡ every n (λ t. q (a + t))
+pub numbers-from : (a n : ℕ) (q : ℕ → Bool) → list_all q (range_with_len a n) ≡ every n (λ t. q (a + t))
 unfolding every
 numbers-from a zero q = refl
 numbers-from a (suc n) q =

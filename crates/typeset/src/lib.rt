@@ -88,8 +88,8 @@ impl Iterator for Members {
         if set == 0 {
             return None;
         }
-        let first = lowest(set);
-        self.left = without(set, first);
-        Some(first)
+        // A set and the number before it have all their types in common but the set's lowest: so the next turn need not wait for this one's type.
+        self.left = meet(set, set - 1);
+        Some(lowest(set))
     }
 }

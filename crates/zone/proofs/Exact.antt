@@ -22,7 +22,6 @@ use denote.Triple.Clauses.{AtExit}
 use borrow.Fn.Kinds.{ended_of}
 use Rattle.plan.specs.declared.Seen.{Seen}
 use Rattle.plan.specs.declared.Subscriber.{Subscriber}
-use Rattle.plan.specs.Find.{holder_at, seen}
 use Rattle.zone.proofs.Zone.empty.Reads as empty
 use Rattle.zone.proofs.Zone.as_slice.Reads as as-slice
 use Rattle.zone.proofs.Zone.as_slice.Kinds as as-slice-kinds
@@ -59,7 +58,6 @@ pub as-slice-exact : (κs : Lfts 1) (self : Bor Zone) (end : AtExit (ended_of 1 
     → as-slice.Post κs (self, tt) r end → as-slice.Post κs (self, tt) s end → r.now ≡ s.now
 as-slice-exact κs self end r s p q = p ∙ sym q
 
--- of what a plan shows
-pub zone-shown-exact : (region : Region) (v : Seen) (holder : Subscriber) (p : Plan) (first second a : ℕ) → seen p first second ≡ v → holder_at p a ≡ holder → (r s : Zone)
+pub zone-shown-exact : (region : Region) (v : Seen) (holder : Subscriber) (r s : Zone)
     → zone-shown.Post tt (region, (v, (holder, tt))) r (region, (v, (holder, tt))) → zone-shown.Post tt (region, (v, (holder, tt))) s (region, (v, (holder, tt))) → r ≡ s
-zone-shown-exact region v holder p first second a shows holds r s f g = f p first second a shows holds ∙ sym (g p first second a shows holds)
+zone-shown-exact region v holder r s f g = f.0 ∙ sym g.0

@@ -3,6 +3,7 @@
 
 ghost use Rattle.std.specs.Prelude.{◌≡◌, ℕ, []};
 ghost use Rattle.plan.specs.declared.Plan.{Plan};
+ghost use Rattle.plan.specs.Parts.{of_region};
 ghost use Rattle.plan.specs.Find.{holder_at, seen};
 ghost use Rattle.zone.specs.Order.{preceded, unpreceded, next, zone_list, held, list_of};
 ghost use Rattle.zone.specs.Answer.{zone_at, answer};
@@ -85,9 +86,10 @@ pub fn zone_of(rows: [u32; 32], set: u32) -> Zone
     }
 }
 
-// The zone of a subscriber in a region, by what a plan shows.
+// The zone of a subscriber in a region, by the order of the part that is shown; where a plan shows the part and has the subscriber at an address, the zone of that address.
 pub fn zone_shown(region: Region, v: Seen, holder: Subscriber) -> Zone
-    ensures { (p : Plan) (first second a : ℕ) → seen p first second ≡ v → holder_at p a ≡ holder → result ≡ held (zone_at p region a) }
+    ensures value { result ≡ held (zone_list (of_region region v.source_order v.target_order) (of_region region holder.source holder.target)) }
+    ensures shown { (p : Plan) (first second a : ℕ) → seen p first second ≡ v → holder_at p a ≡ holder → result ≡ held (zone_at p region a) }
 {
     let source_order = v.source_order;
     let target_order = v.target_order;
@@ -106,9 +108,12 @@ pub fn zone_at(plan: Plan, region: Region, address: u32) -> Zone
 }
 
 // The zone of an address in a region of any plan; 23 at place 0 for a plan that breaks a rule.
+#[tactic(auto, unfolding(crate::specs::Answer::answer, plan::specs::Sound::verdict))]
 pub fn zone_for(plan: Plan, region: Region, address: u32) -> Result<Zone, Refusal>
     ensures { result ≡ answer plan region address }
 {
-    soundness::check(plan)?;
+    if !soundness::sound(plan) {
+        return Err(Refusal::RuleBroken(0));
+    }
     Ok(zone_at(plan, region, address))
 }

@@ -12,7 +12,7 @@ pub returns-in-Ok : goal.returns-in-Ok
 unfolding zoned types_zoned held
 returns-in-Ok c =
     let s = shown _ c.scan.ensures.0 c.scan.ensures.1 c.in-Ok.is in
-    let zone = c.zone_shown-zone.ensures s.plan c.args.address 0 c.args.address s.shows (seen_first s.plan c.args.address 0 s.shows) in (
+    let zone = c.zone_shown-zone.ensures.shown s.plan c.args.address 0 c.args.address s.shows (seen_first s.plan c.args.address 0 s.shows) in (
       rw (s.is, ← c.region_of.ensures) (c.accepted.ensures ∙ ap accepted (c.into.ensures ∙ ap (λ (z : Zone). z.len) zone)),
       rw (s.is, ← c.region_of.ensures) (ap (λ (z : Zone). z.types) zone),
     )

@@ -12,7 +12,7 @@ returns c p e =
       c.type_exists.ensures p (existing-seen p _ _ e),
       c.makes_more.ensures,
       c.address_held.ensures p (seen_first p _ _ e),
-      c.continuable.ensures p (c.zone_shown-zone.ensures p _ _ _ e (seen-second p _ _ e)) (reversible-seen p _ _ e),
+      c.continuable.ensures p (c.zone_shown-zone.ensures.shown p _ _ _ e (seen-second p _ _ e)) (reversible-seen p _ _ e),
       c.routing_address.ensures,
       c.legal_string.ensures,
       c.not_own.ensures,

@@ -15,7 +15,7 @@ returns c p e =
       c.address_held.ensures p (seen_first p _ _ e),
       c.reversible_type.ensures,
       ← reversible-seen p _ _ e,
-      c.well_formed_in.ensures ∙ well-formed-by p _ (c.zone_shown-zone.ensures p _ _ _ e (seen-second p _ _ e)) (reversible-seen p _ _ e),
+      c.well_formed_in.ensures ∙ well-formed-by p _ (c.zone_shown-zone.ensures.shown p _ _ _ e (seen-second p _ _ e)) (reversible-seen p _ _ e),
       c.legal_string.ensures,
       c.not_own.ensures,
       c.both_legal.ensures,

@@ -10,10 +10,10 @@ offset_bounds-plan-i c = omega (arith, found_below _ _ _ (sym c.find.ensures ∙
 pub bounds-plan-i : goal.bounds-plan-i
 bounds-plan-i c = found_below _ _ _ (sym c.find.ensures ∙ c.in-Some.is)
 
-pub returns-in-Some : goal.returns-in-Some
+pub returns-in_default : goal.returns-in_default
 unfolding holder_at
-returns-in-Some c = rw (sym c.find.ensures ∙ c.in-Some.is)
+returns-in_default c = rw (sym c.find.ensures ∙ c.in_default.is) c.no_subscriber.ensures
 
-pub returns-in-None : goal.returns-in-None
+pub returns : goal.returns
 unfolding holder_at
-returns-in-None c = rw (sym c.find.ensures ∙ c.in-None.is) c.no_subscriber.ensures
+returns c = rw (sym c.find.ensures ∙ c.in-Some.is)

@@ -8,12 +8,12 @@ use Rattle.setup.specs.Dialling.{symbol, legal_string}
 use Rattle.typeset.proofs.Listed.{items-all}
 use Rattle.setup.proofs.legal_string.Goals as goal
 
-pub returns-then-s-le32 : goal.returns-then-s-le32
+pub returns-then-few : goal.returns-then-few
 unfolding legal_string
-returns-then-s-le32 c =
-    rw (le-leb _ 32 c.if-s-le32.true)
+returns-then-few c =
+    rw (le-leb _ 32 c.if-few.true)
     (all_from_yields_List symbol _ _ _ c.all.ensures.ran (YieldsList-from_slice _ c.iter.ensures.rest) (λ x b q k. search (rules, tests)) ∙ items-all symbol c.args.s.now 0)
 
-pub returns-else-s-le32 : goal.returns-else-s-le32
+pub returns-else-few : goal.returns-else-few
 unfolding legal_string
-returns-else-s-le32 c = rw (lt-leb _ 32 c.if-s-le32.false)
+returns-else-few c = rw (lt-leb _ 32 c.if-few.false)
