@@ -204,12 +204,13 @@ fn keeps(types: Types, s: Subscriber, last: u32, taken: &[u32; 4096]) -> bool
 }
 
 // The fields after the four fixed ones: a subscriber at each turn, until the end field. Nobody has a box number to begin with.
-fn read_subscribers(bytes: &[u8], head: Head, taken: &mut [u32; 4096]) -> Result<Plan, Refusal>
-    requires { (289 ≤ length bytes.now) × (taken.old ≡ replicate 4096 0) }
+fn read_subscribers(bytes: &[u8], head: Head) -> Result<Plan, Refusal>
+    requires { 289 ≤ length bytes.now }
     ensures { result ≡ read_from 257 4 (plan_of head.types head.source head.target (replicate 256 no_subscriber) 0) 289 (drop 289 bytes.now) }
 {
     let source = head.source;
     let target = head.target;
+    let mut taken = [0u32; 4096];
     let empty = plan::no_subscriber();
     let mut subscribers = [empty; 256];
     let mut count = 0usize;
@@ -229,10 +230,10 @@ fn read_subscribers(bytes: &[u8], head: Head, taken: &mut [u32; 4096]) -> Result
         }
         let n = two(bytes, at + 1) as usize;
         let s = subscriber_at(bytes, at + 3, (n - 13) / 2);
-        if !keeps(head.types, s, last, taken) {
+        if !keeps(head.types, s, last, &taken) {
             return Err(Refusal::RuleBroken(at));
         }
-        soundness::claim(taken, s);
+        soundness::claim(&mut taken, s);
         subscribers[count] = s;
         last = s.address;
         count += 1;
@@ -304,8 +305,7 @@ pub fn read(bytes: &[u8]) -> Result<Plan, Refusal>
     ensures numbered { (number_said result ≡ number_read bytes.now) × (place_said result ≡ place_read bytes.now) }
 {
     let head = fixed(bytes)?;
-    let mut taken = [0u32; 4096];
-    read_subscribers(bytes, head, &mut taken)
+    read_subscribers(bytes, head)
 }
 
 // ---- what the plan of a file shows, without the plan
@@ -317,12 +317,12 @@ fn pass_subscribers(
     types: Types,
     first: u32,
     second: u32,
-    taken: &mut [u32; 4096],
 ) -> Result<(Subscriber, Subscriber), Refusal>
-    requires { (289 ≤ length bytes.now) × (taken.old ≡ replicate 4096 0) }
+    requires { 289 ≤ length bytes.now }
     ensures { (source target : List ℕ) → sighted result types source target
         ≡ scanned first second (read_from 257 4 (plan_of types source target (replicate 256 no_subscriber) 0) 289 (drop 289 bytes.now)) }
 {
+    let mut taken = [0u32; 4096];
     let mut one = plan::no_subscriber();
     let mut other = plan::no_subscriber();
     let mut count = 0usize;
@@ -335,10 +335,10 @@ fn pass_subscribers(
         }
         let n = two(bytes, at + 1) as usize;
         let s = subscriber_at(bytes, at + 3, (n - 13) / 2);
-        if !keeps(types, s, before, taken) {
+        if !keeps(types, s, before, &taken) {
             return Err(Refusal::RuleBroken(at));
         }
-        soundness::claim(taken, s);
+        soundness::claim(&mut taken, s);
         if s.address == first {
             one = s;
         }
@@ -358,8 +358,7 @@ pub fn scan(bytes: &[u8], first: u32, second: u32) -> Result<Seen, Refusal>
     let head = fixed(bytes)?;
     let source_order = head.source;
     let target_order = head.target;
-    let mut taken = [0u32; 4096];
-    let (first, second) = pass_subscribers(bytes, head.types, first, second, &mut taken)?;
+    let (first, second) = pass_subscribers(bytes, head.types, first, second)?;
     Ok(Seen {
         types: head.types,
         source_order,
@@ -375,7 +374,6 @@ pub fn verdict(bytes: &[u8]) -> Result<(), Refusal>
     ensures numbered { (number_said result ≡ number_read bytes.now) × (place_said result ≡ place_read bytes.now) }
 {
     let types = fixed(bytes)?.types;
-    let mut taken = [0u32; 4096];
-    pass_subscribers(bytes, types, 0, 0, &mut taken)?;
+    pass_subscribers(bytes, types, 0, 0)?;
     Ok(())
 }

@@ -6,7 +6,7 @@ use lib.ListN.{length, drop}
 use Rattle.plan.specs.declared.Subscriber.{Subscriber}
 use Rattle.planread.proofs.Places.{keeps-is}
 use Rattle.planread.proofs.Steps.{boxes-length}
-use mathlib.Core.Path.{◌≡◌, sym, ap, ◌∙◌}
+use mathlib.Core.Path.{◌≡◌, refl, sym, ap, ◌∙◌}
 use native.Mathlib.Omega.{arith}
 use Rattle.typeset.proofs.Bools.{passed, failed}
 use Prim.Native.Nat.{◌-◌}
@@ -20,7 +20,7 @@ use Rattle.planread.proofs.pass_subscribers.Goals.{else-s-first, else-s-second, 
 use Rattle.refusal.specs.declared.Refusal.{Refusal}
 
 pub loop-n-init : goal.loop-n-init
-loop-n-init c = λ source target. passing-none c.args.bytes.now c.args.types source target c.args.first c.args.second c.requires.0 c.requires.1 c.no_subscriber-one.ensures c.no_subscriber-other.ensures
+loop-n-init c = λ source target. passing-none c.args.bytes.now c.args.types source target c.args.first c.args.second c.requires refl c.no_subscriber-one.ensures c.no_subscriber-other.ensures
 
 pub header-requires : goal.header-requires
 header-requires c = (omega arith, (c.loop-n.invariant [] []).going.inside)

@@ -8,7 +8,7 @@ use Rattle.planread.proofs.Onward.{on-refused, on-sound}
 use Rattle.planread.proofs.read.Goals as goal
 
 pub read_subscribers-requires : goal.read_subscribers-requires
-read_subscribers-requires c = (c.fixed.ensures.1 (ap (λ (h : Result Head Refusal). is_ok h) c.in_ok-head.was), search rules)
+read_subscribers-requires c = c.fixed.ensures.1 (ap (λ (h : Result Head Refusal). is_ok h) c.in_ok-head.was)
 
 pub returns-in_err-head : goal.returns-in_err-head
 returns-in_err-head c =

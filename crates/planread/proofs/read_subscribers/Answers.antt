@@ -4,7 +4,7 @@ use lib.ListN.{length, drop}
 use Rattle.plan.specs.declared.Subscriber.{Subscriber}
 use Rattle.planread.proofs.Places.{keeps-is}
 use Rattle.planread.proofs.Steps.{boxes-length}
-use mathlib.Core.Path.{◌≡◌, sym, ap, ◌∙◌}
+use mathlib.Core.Path.{◌≡◌, refl, sym, ap, ◌∙◌}
 use native.Mathlib.Omega.{arith}
 use Rattle.typeset.proofs.Bools.{passed, failed}
 use Prim.Native.Nat.{◌-◌}
@@ -14,7 +14,7 @@ use Rattle.std.proofs.Common.{rules}
 use Rattle.planread.proofs.read_subscribers.Goals as goal
 
 pub loop-subscribers-init : goal.loop-subscribers-init
-loop-subscribers-init c = rw c.no_subscriber-empty.ensures (going-none c.args.bytes.now c.args.head.types c.args.head.source c.args.head.target c.requires.0 c.requires.1)
+loop-subscribers-init c = rw c.no_subscriber-empty.ensures (going-none c.args.bytes.now c.args.head.types c.args.head.source c.args.head.target c.requires refl)
 
 pub header-requires : goal.header-requires
 header-requires c = (omega arith, c.loop-subscribers.invariant.inside)
