@@ -203,7 +203,8 @@ fn keeps(types: Types, s: Subscriber, last: u32, taken: &[u32; 4096]) -> bool
     rules::listed_sound(types, s) && beside(s, last, taken)
 }
 
-// The fields after the four fixed ones: a subscriber at each turn, until the end field. Nobody has a box number to begin with.
+// The fields after the four fixed ones: a subscriber at each turn, until the end field. Nobody has a box number to begin with; the table of those that are given is made here,
+// since a table lent by the caller is cleared twice where the compiler takes this function into it.
 fn read_subscribers(bytes: &[u8], head: Head) -> Result<Plan, Refusal>
     requires { 289 ≤ length bytes.now }
     ensures { result ≡ read_from 257 4 (plan_of head.types head.source head.target (replicate 256 no_subscriber) 0) 289 (drop 289 bytes.now) }
